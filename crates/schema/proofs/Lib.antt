@@ -1,3 +1,4 @@
 pub mod Numbered
 pub mod Bad
 pub mod Filled
+pub mod Small

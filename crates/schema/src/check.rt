@@ -103,7 +103,7 @@ fn first_bad(rows: &[NodeRow]) -> Option<u32>
 
 // The typed nodes of the rows, in the first places.
 fn nodes_of(rows: &[NodeRow]) -> [Node; 16]
-    requires { ⌜ length (now rows) ≤ 16 ⌝ }
+    requires { ⌜ Lawful (now rows) ⌝ }
     ensures { λ r. ⌜ filled (now (rows .entry)) r ⌝ }
 {
     let unused = Node::Leaf(LeafNode {

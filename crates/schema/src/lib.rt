@@ -14,5 +14,6 @@ pub use nodes::NodeRow;
 pub use nodes::Range;
 pub use path::Path;
 pub use path::PathFault;
+pub use path::PathPartialEq;
 pub use typed::Schema;
 pub use typed::SchemaFault;

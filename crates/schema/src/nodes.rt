@@ -1,4 +1,5 @@
 // The rows of a schema as they are handed in, and its typed nodes.
+ghost use Prim.Native.Nat.{_<_};
 ghost use Rattle.schema.specs.Nodes.{node-of, optional};
 ghost use Rattle.schema.specs.Rows.{at};
 ghost use mathlib.Core.Path.{_≡_};
@@ -27,7 +28,7 @@ pub struct Range {
 // A list: the list that it stands in, unless at the top; the range of its key; the most entries in one parent entry.
 #[derive(Clone, Copy)]
 pub struct ListNode {
-    pub parent: Option<u32>,
+    pub parent: Option<u8>,
     pub keys: Range,
     pub maximum: Option<u32>,
 }
@@ -36,10 +37,10 @@ pub struct ListNode {
 // whose key its value has to be.
 #[derive(Clone, Copy)]
 pub struct LeafNode {
-    pub parent: Option<u32>,
+    pub parent: Option<u8>,
     pub values: Range,
     pub mandatory: bool,
-    pub reference: Option<u32>,
+    pub reference: Option<u8>,
 }
 
 #[derive(Clone, Copy)]
@@ -59,15 +60,17 @@ pub(crate) fn numbered<T: Copy>(items: &[T], number: u32) -> Option<T>
     Some(items[place - 1])
 }
 
-// 0 stands for none.
-fn optional(number: u32) -> Option<u32>
+// The node of this number, 0 for none.
+fn named(number: u32) -> Option<u8>
+    requires { ⌜ number < 256 ⌝ }
     ensures { λ r. ⌜ r ≡ optional number ⌝ }
 {
-    if number == 0 { None } else { Some(number) }
+    if number == 0 { None } else { Some(number as u8) }
 }
 
-// The typed node of a row.
+// The typed node of a row. The nodes that it names have numbers below 256.
 pub(crate) fn node_of(row: NodeRow) -> Node
+    requires { ⌜ row .parent < 256 ⌝ ∗ ⌜ row .reference < 256 ⌝ }
     ensures { λ r. ⌜ r ≡ node-of row ⌝ }
 {
     let range = Range {
@@ -76,15 +79,15 @@ pub(crate) fn node_of(row: NodeRow) -> Node
     };
     if row.kind == 1 {
         return Node::List(ListNode {
-            parent: optional(row.parent),
+            parent: named(row.parent),
             keys: range,
-            maximum: optional(row.maximum),
+            maximum: if row.maximum == 0 { None } else { Some(row.maximum) },
         });
     }
     Node::Leaf(LeafNode {
-        parent: optional(row.parent),
+        parent: named(row.parent),
         values: range,
         mandatory: row.mandatory == 1,
-        reference: optional(row.reference),
+        reference: named(row.reference),
     })
 }

@@ -3,6 +3,7 @@ ghost use Rattle.fault.specs.Reports.{at-path, plain};
 ghost use Rattle.schema.specs.Nodes.{nodes};
 ghost use Rattle.schema.specs.Paths.{entry-answer, fault-number, in-range, inside-keys, key-ranges, list-keys, list-range, path-answer, value-range};
 ghost use Rattle.schema.specs.Rows.{at};
+ghost use Rattle.std.specs.Orderings.{Decides};
 ghost use mathlib.Core.Path.{_≡_};
 use crate::nodes::ListNode;
 use crate::nodes::Node;
@@ -17,6 +18,14 @@ pub struct Path {
     pub node: u8,
     pub k1: u32,
     pub k2: u32,
+}
+
+pub impl PartialEq<Path> for Path as PathPartialEq {
+    ghost equals = { λ a b r. Decides r (a ≡ b) };
+
+    fn eq(&self, other: &Path) -> bool {
+        self.node == other.node && self.k1 == other.k1 && self.k2 == other.k2
+    }
 }
 
 // Why a path or its value is refused.
@@ -52,14 +61,14 @@ impl Node {
 
 impl Schema {
     // The node of this number.
-    pub fn node(&self, number: u32) -> Option<Node>
+    pub fn node(&self, number: u8) -> Option<Node>
         ensures { λ r. ⌜ r ≡ at (nodes (now (self .entry))) number ⌝ }
     {
-        numbered(&self.nodes[0..self.count], number)
+        numbered(&self.nodes[0..self.count], u32::from(number))
     }
 
     // The range of the key of the list of this number.
-    fn list_range(&self, number: u32) -> Range
+    fn list_range(&self, number: u8) -> Range
         ensures { λ r. ⌜ r ≡ list-range (at (nodes (now (self .entry))) number) ⌝ }
     {
         match self.node(number) {
@@ -79,7 +88,7 @@ impl Schema {
     }
 
     // The ranges of both keys inside an entry of the list of this number.
-    fn inside_keys(&self, number: u32) -> (Range, Range)
+    fn inside_keys(&self, number: u8) -> (Range, Range)
         ensures { λ r. ⌜ r ≡ inside-keys (nodes (now (self .entry))) (at (nodes (now (self .entry))) number) ⌝ }
     {
         match self.node(number) {
@@ -105,7 +114,7 @@ impl Schema {
     pub fn check_path(&self, path: Path) -> Result<Node, PathFault>
         ensures { λ r. ⌜ r ≡ path-answer (nodes (now (self .entry))) path ⌝ }
     {
-        let Some(node) = self.node(u32::from(path.node)) else {
+        let Some(node) = self.node(path.node) else {
             return Err(PathFault::Node);
         };
         let (first, second) = self.key_ranges(node);
