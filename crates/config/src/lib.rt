@@ -2,6 +2,7 @@
 mod config;
 mod entries;
 mod entry;
+mod lawful;
 
 pub use config::Config;
 pub use config::Full;

@@ -3,6 +3,7 @@ use mathlib.Core.Bool.{Bool, cond, _&&_}
 use mathlib.Core.List.{List}
 use Prim.Native.Nat.{ℕ}
 use lib.Dec.{leb}
+use Rattle.std.specs.Options.{mapped}
 use Rattle.std.specs.declared.option.Option.{Option}
 use Rattle.std.specs.declared.option.Option.the-variants.{Some, None}
 use Rattle.std.specs.declared.result.Result.{Result}
@@ -55,6 +56,16 @@ key-ranges ns (Leaf l) = leaf-keys ns (l .parent)
 
 abbrev pub keys-fit : Range × Range → Path → Bool
 keys-fit ranges p = in-range (ranges .0) (p .k1) && in-range (ranges .1) (p .k2)
+
+-- The path of the entry of the list around a path; there is none at the top. A list stands in a list at the top, and a leaf
+-- may stand in a list of either depth, so that it has all keys of that list.
+abbrev pub around-node : Path → Option Node → Option Path
+around-node p None = None
+around-node p (Some (list-node l)) = mapped (λ n. record { node = n; k1 = p .k1; k2 = 0 }) (l .parent)
+around-node p (Some (Leaf l)) = mapped (λ n. record { node = n; k1 = p .k1; k2 = p .k2 }) (l .parent)
+
+abbrev pub around : List Node → Path → Option Path
+around ns p = around-node p (at ns (p .node))
 
 -- a path has a node of the schema, and then keys in the ranges of that node
 abbrev pub node-answer : List Node → Path → Option Node → Result Node PathFault

@@ -1,7 +1,7 @@
 // Which keys and which value a path takes.
 ghost use Rattle.fault.specs.Reports.{at-path, plain};
 ghost use Rattle.schema.specs.Nodes.{nodes};
-ghost use Rattle.schema.specs.Paths.{entry-answer, fault-number, in-range, inside-keys, key-ranges, list-keys, list-range, path-answer, value-range};
+ghost use Rattle.schema.specs.Paths.{around, entry-answer, fault-number, in-range, inside-keys, key-ranges, list-keys, list-range, path-answer, value-range};
 ghost use Rattle.schema.specs.Rows.{at};
 ghost use Rattle.std.specs.Orderings.{Decides};
 ghost use mathlib.Core.Path.{_≡_};
@@ -108,6 +108,21 @@ impl Schema {
                 None => (NONE, NONE),
             },
         }
+    }
+
+    // The path of the entry of the list around a path, none at the top.
+    pub fn around(&self, path: Path) -> Option<Path>
+        ensures { λ r. ⌜ r ≡ around (nodes (now (self .entry))) path ⌝ }
+    {
+        let (list, k2) = match self.node(path.node)? {
+            Node::List(list) => (list.parent?, 0),
+            Node::Leaf(leaf) => (leaf.parent?, path.k2),
+        };
+        Some(Path {
+            node: list,
+            k1: path.k1,
+            k2,
+        })
     }
 
     // The node of a lawful path, or what is wrong with it.
