@@ -1,3 +1,4 @@
 pub mod Order
 pub mod Taken
 pub mod Places
+pub mod Writes

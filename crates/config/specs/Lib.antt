@@ -1,3 +1,4 @@
 pub mod Order
 pub mod Configs
 pub mod Lawful
+pub mod Images

@@ -2,6 +2,7 @@
 mod config;
 mod entries;
 mod entry;
+mod image;
 mod lawful;
 
 pub use config::Config;
