@@ -2,3 +2,6 @@ pub mod Order
 pub mod Taken
 pub mod Places
 pub mod Writes
+pub mod Words
+pub mod Last
+pub mod Decodes

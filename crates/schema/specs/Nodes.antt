@@ -7,10 +7,17 @@ use lib.Dec.{eqb}
 use lib.ListN.{length, take}
 use Rattle.std.specs.declared.option.Option.{Option}
 use Rattle.std.specs.declared.option.Option.the-variants.{Some, None}
+use Rattle.schema.specs.declared.nodes.Kind.{Kind}
+use Rattle.schema.specs.declared.nodes.Kind.the-variants.{List as list-kind, Leaf as leaf-kind}
 use Rattle.schema.specs.declared.nodes.NodeRow.{NodeRow}
 use Rattle.schema.specs.declared.nodes.Node.{Node}
 use Rattle.schema.specs.declared.nodes.Node.the-variants.{List as list-node, Leaf}
 use Rattle.schema.specs.declared.typed.Schema.{Schema}
+
+-- the number of a kind of nodes
+abbrev pub kind-number : Kind → ℕ
+kind-number list-kind = 1
+kind-number leaf-kind = 2
 
 -- 0 stands for none
 abbrev pub optional : ℕ → Option ℕ

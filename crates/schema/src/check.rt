@@ -9,6 +9,7 @@ ghost use Rattle.std.specs.Options.{Cases};
 ghost use Rattle.std.specs.Orderings.{Decides};
 ghost use lib.ListN.{length};
 ghost use mathlib.Core.Path.{_≡_};
+use crate::nodes::Kind;
 use crate::nodes::LeafNode;
 use crate::nodes::Node;
 use crate::nodes::NodeRow;
@@ -78,10 +79,10 @@ fn leaf_lawful(rows: &[NodeRow], number: u32, row: NodeRow) -> bool
 fn node_lawful(rows: &[NodeRow], number: u32, row: NodeRow) -> bool
     ensures { λ r. ⌜ Decides r (Node-lawful (now (rows .entry)) number row) ⌝ }
 {
-    match row.kind {
-        1 => list_lawful(rows, number, row),
-        2 => leaf_lawful(rows, number, row),
-        _ => false,
+    match Kind::from_number(row.kind) {
+        Some(Kind::List) => list_lawful(rows, number, row),
+        Some(Kind::Leaf) => leaf_lawful(rows, number, row),
+        None => false,
     }
 }
 

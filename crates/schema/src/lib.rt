@@ -7,6 +7,7 @@ mod nodes;
 mod path;
 mod typed;
 
+pub use nodes::Kind;
 pub use nodes::LeafNode;
 pub use nodes::ListNode;
 pub use nodes::Node;

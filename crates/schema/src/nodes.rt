@@ -1,8 +1,29 @@
 // The rows of a schema as they are handed in, and its typed nodes.
 ghost use Prim.Native.Nat.{_<_};
-ghost use Rattle.schema.specs.Nodes.{node-of, optional};
+ghost use Rattle.fault.specs.Codes.{Stands-for};
+ghost use Rattle.schema.specs.Nodes.{kind-number, node-of, optional};
 ghost use Rattle.schema.specs.Rows.{at};
 ghost use mathlib.Core.Path.{_≡_};
+
+// The kinds of nodes.
+#[derive(Clone, Copy)]
+pub enum Kind {
+    List = 1,
+    Leaf = 2,
+}
+
+impl Kind {
+    // The kind of this number.
+    pub fn from_number(number: u32) -> Option<Self>
+        ensures { λ r. ⌜ Stands-for kind-number number r ⌝ }
+    {
+        match number {
+            1 => Some(Kind::List),
+            2 => Some(Kind::Leaf),
+            _ => None,
+        }
+    }
+}
 
 // A node as it is handed in, all of it plain numbers. Kind 1 is a list, kind 2 a leaf. Parent 0 is the top, and another
 // parent the number of a list; nodes are numbered from 1. Of a list, lo and hi bound its key, and maximum 0 is none. Of a

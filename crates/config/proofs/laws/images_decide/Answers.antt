@@ -1,0 +1,5 @@
+use Rattle.config.proofs.Decodes.{image-same}
+use Rattle.config.proofs.laws.images_decide.Needs as need
+
+pub returns : need.returns
+returns c = image-same
