@@ -29,9 +29,10 @@ written-more count es i d start out bytes inside room e w =
     let grown : (count ∷ joined entry-bytes (take i es)) ++ entry-bytes (getD es i d) ≡ count ∷ joined entry-bytes (take (i + 1) es) =
     joined-more entry-bytes (count ∷ []) (take i es) (getD es i d) ∙ ap (λ l. count ∷ joined entry-bytes l) (sym (take-more es i d inside)) in
     let back : drop (1 + 16 * (i + 1)) (putMid at k out bytes) ≡ drop (1 + 16 * (i + 1)) out = drop-putMid at k out bytes (1 + 16 * (i + 1)) (omega arith) (omega arith) (omega arith) in
-    let further : (l : List ℕ) → drop (1 + 16 * (i + 1)) l ≡ drop 16 (drop at l) = λ l. sym (drop-drop 16 at l ∙ ap (λ n. drop n l) (omega arith)) in
-    (front ∙ ap (λ l. l ++ bytes) (w .0) ∙ ap (λ b. (count ∷ joined entry-bytes (take i es)) ++ b) e ∙ grown
-    , back ∙ further out ∙ ap (drop 16) (w .1) ∙ sym (further start))
+    let further : (l : List ℕ) → drop (1 + 16 * (i + 1)) l ≡ drop 16 (drop at l) = λ l. sym (drop-drop 16 at l ∙ ap (λ n. drop n l) (omega arith)) in (
+      front ∙ ap (λ l. l ++ bytes) (w .0) ∙ ap (λ b. (count ∷ joined entry-bytes (take i es)) ++ b) e ∙ grown,
+      back ∙ further out ∙ ap (drop 16) (w .1) ∙ sym (further start),
+    )
 
 pub length-joined : (es : List Entry) → length (joined entry-bytes es) ≡ 16 * length es
 length-joined [] = refl

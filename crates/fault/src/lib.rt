@@ -5,7 +5,10 @@
 ghost use Rattle.fault.specs.Numbers.{One-layer, layer-at, layer-number};
 ghost use Rattle.fault.specs.Rows.{looked-up};
 ghost use Rattle.fault.specs.Reports.{at-path, because, in-item, plain};
+ghost use Rattle.fault.specs.Text.{fields, spaced};
+ghost use Rattle.std.specs.declared.option.Option.the-variants.{Some};
 ghost use mathlib.Core.Path.{_≡_};
+use std::fmt;
 
 // The part of the engine that a refusal number belongs to.
 #[derive(Clone, Copy, PartialEq, Eq, Debug)]
@@ -146,5 +149,24 @@ impl Report {
             k2,
             ..self
         }
+    }
+}
+
+// The eight numbers, one space between them.
+pub impl fmt::Display for Report as ReportDisplay {
+    ghost shown = { λ r. Some (spaced (fields r)) };
+
+    fn fmt<W: fmt::Write>(&self, f: &mut fmt::Formatter<W>) -> fmt::Result {
+        let Report {
+            number,
+            layer,
+            cause,
+            item,
+            kept,
+            node,
+            k1,
+            k2,
+        } = *self;
+        write!(f, "{number} {layer} {cause} {item} {kept} {node} {k1} {k2}")
     }
 }

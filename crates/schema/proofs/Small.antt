@@ -32,9 +32,11 @@ small rows lawful i d within =
     (λ (is-list : r .kind ≡ 1). let l = node .list is-list in (parent-small rows (i + 1) r few (l .place), omega (arith, l .no-reference)))
     (λ (other : r .kind ≡ 1 → ⊥).
     let is-leaf : r .kind ≡ 2 = omega (arith, node .kind-least, node .kind-most) in
-    let l = node .leaf is-leaf in
-    (parent-small rows (i + 1) r few (l .place), ⊎-elim
-    (λ (above : 0 < r .reference). omega (arith, named-within rows (r .reference) (l .refers .to-list above)))
-    (λ le. omega arith)
-    (cases-lt 0 (r .reference))))
+    let l = node .leaf is-leaf in (
+      parent-small rows (i + 1) r few (l .place),
+      ⊎-elim
+          (λ (above : 0 < r .reference). omega (arith, named-within rows (r .reference) (l .refers .to-list above)))
+          (λ le. omega arith)
+          (cases-lt 0 (r .reference)),
+    ))
     (cases-eq (r .kind) 1)

@@ -86,7 +86,11 @@ fn named(number: u32) -> Option<u8>
     requires { ⌜ number < 256 ⌝ }
     ensures { λ r. ⌜ r ≡ optional number ⌝ }
 {
-    if number == 0 { None } else { Some(number as u8) }
+    if number == 0 {
+        None
+    } else {
+        Some(number as u8)
+    }
 }
 
 // The typed node of a row. The nodes that it names have numbers below 256.
@@ -102,7 +106,11 @@ pub(crate) fn node_of(row: NodeRow) -> Node
         return Node::List(ListNode {
             parent: named(row.parent),
             keys: range,
-            maximum: if row.maximum == 0 { None } else { Some(row.maximum) },
+            maximum: if row.maximum == 0 {
+                None
+            } else {
+                Some(row.maximum)
+            },
         });
     }
     Node::Leaf(LeafNode {

@@ -10,10 +10,13 @@ use Rattle.config.proofs.config.Config.append.Needs as need
 pub ghost-self : need.ghost-self
 ghost-self c =
     let self = c .args .self .now in
-    let room : self .count < length (self .entries) = omega (arith, self .whole, self .few, c .if-count-eq48 .left) in
-    (length-set (self .entries) (self .count) (c .args .entry) ∙ self .whole
-    , (omega (arith, self .few, c .if-count-eq48 .left)
-    , (ap rising (take-more-set (self .entries) (self .count) (c .args .entry) room) ∙ sym (c .if-not-comes-last .ensures tt), tt)))
+    let room : self .count < length (self .entries) = omega (arith, self .whole, self .few, c .if-count-eq48 .left) in (
+      length-set (self .entries) (self .count) (c .args .entry) ∙ self .whole,
+      (
+        omega (arith, self .few, c .if-count-eq48 .left),
+        (ap rising (take-more-set (self .entries) (self .count) (c .args .entry) room) ∙ sym (c .if-not-comes-last .ensures tt), tt),
+      ),
+    )
 
 pub returns : need.returns
 returns c =

@@ -40,9 +40,10 @@ loop-i-again c =
     let es = used (c .loop-i .config) in
     let e = c .in-Continue-entry .entry in
     let size : 1 + 16 * i + 16 - (1 + 16 * i) ≡ 16 = omega arith in
-    let is : used (c .append .last .self) ≡ es ++ e ∷ [] = c .if-not-append .ensures tt in
-    (ap length is ∙ length-push es e ∙ ap (λ n. n + 1) (c .loop-i .inv .0)
-    , decoded-more (c .args .bytes .now) (c .in-Continue-count .count) i _ es e size (c .loop-i .inv .1) (c .in-Continue-entry .ensures tt) ∙ ap (λ l. c .in-Continue-count .count ∷ joined entry-bytes l) (sym is))
+    let is : used (c .append .last .self) ≡ es ++ e ∷ [] = c .if-not-append .ensures tt in (
+      ap length is ∙ length-push es e ∙ ap (λ n. n + 1) (c .loop-i .inv .0),
+      decoded-more (c .args .bytes .now) (c .in-Continue-count .count) i _ es e size (c .loop-i .inv .1) (c .in-Continue-entry .ensures tt) ∙ ap (λ l. c .in-Continue-count .count ∷ joined entry-bytes l) (sym is),
+    )
 
 pub returns : need.returns
 returns c =

@@ -27,8 +27,9 @@ returns c =
     let start = set (c .args .out .now) 0 (self .count) in
     let done : self .count ≡ c .loop-i .i = omega (arith, c .loop-i-test .left, c .loop-i .kept .i-end) in
     let inv : Written (self .count) (self .entries) (self .count) start (c .loop-i .out) =
-    subst (λ n. Written (self .count) (self .entries) n start (c .loop-i .out)) (sym done) (c .loop-i .inv) in
-    (c .if-out-lt769 .left
-    , sym (length-image (used self) ∙ ap (λ n. 1 + 16 * n) (used-length self))
-    , written-all self start (c .loop-i .out) inv
-    ∙ ap (λ l. image (used self) ++ l) (drop-set-lt (1 + 16 * self .count) (c .args .out .now) 0 (self .count) (omega arith)))
+    subst (λ n. Written (self .count) (self .entries) n start (c .loop-i .out)) (sym done) (c .loop-i .inv) in (
+      c .if-out-lt769 .left,
+      sym (length-image (used self) ∙ ap (λ n. 1 + 16 * n) (used-length self)),
+      written-all self start (c .loop-i .out) inv
+          ∙ ap (λ l. image (used self) ++ l) (drop-set-lt (1 + 16 * self .count) (c .args .out .now) 0 (self .count) (omega arith)),
+    )
