@@ -4,7 +4,7 @@ use mathlib.Core.List.{List}
 use Prim.Native.Nat.{ℕ, _≤_, _<_}
 use lib.ListN.{length, take}
 use Rattle.std.specs.declared.option.Option.{Option}
-use Rattle.std.specs.declared.option.Option.the-variants.{Some, None}
+use Rattle.std.specs.declared.option.Option.the-variants.{None}
 use Rattle.std.specs.declared.result.Result.{Result}
 use Rattle.std.specs.declared.result.Result.the-variants.{Ok, Err}
 use Rattle.table.specs.Table.{lookup, with-row, without, Lookup-put, Lookup-take}
@@ -48,6 +48,7 @@ pub record Entry-taken (before : List Entry) (p : Path) (after : List Entry) : T
   pub lookups : Lookup-take path-of path-sooner before p after
 
 -- The entry at a path is taken out if there is one, and else nothing changes.
-abbrev pub Take-answer : Config → Path → Config → Option Entry → Type 0
-Take-answer c p d (Some e) = (found (used c) p ≡ Some e) × Entry-taken (used c) p (used d)
-Take-answer c p d None = (found (used c) p ≡ None) × (d ≡ c)
+pub record Take-answer (c : Config) (p : Path) (d : Config) (r : Option Entry) : Type 0 where
+  pub taken : r ≡ found (used c) p
+  pub rest : Entry-taken (used c) p (used d)
+  pub absent : r ≡ None → d ≡ c

@@ -1,9 +1,13 @@
 // An entry of a configuration, and the order of entries.
 ghost use Rattle.config.specs.Order.{path-sooner};
 ghost use Rattle.std.specs.Orderings.{Decides};
+ghost use Rattle.fault.specs.Text.{spaced};
+ghost use Rattle.std.specs.declared.option.Option.the-variants.{Some};
+ghost use mathlib.Core.List.{[], _∷_};
 ghost use mathlib.Core.Path.{_≡_};
 use schema::Path;
 use schema::PathPartialEq;
+use std::fmt;
 use table::Record;
 
 // A path and its value, which is 0 at a list.
@@ -41,5 +45,16 @@ pub impl Record for Entry as EntryRecord {
         } else {
             a.k2 < b.k2
         }
+    }
+}
+
+// Node, k1, k2 and value, one space between them.
+pub impl fmt::Display for Entry as EntryDisplay {
+    ghost shown = { λ e. Some (spaced (e .path .node ∷ e .path .k1 ∷ e .path .k2 ∷ e .value ∷ [])) };
+
+    fn fmt<W: fmt::Write>(&self, f: &mut fmt::Formatter<W>) -> fmt::Result {
+        let Path { node, k1, k2 } = self.path;
+        let value = self.value;
+        write!(f, "{node} {k1} {k2} {value}")
     }
 }

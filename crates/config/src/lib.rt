@@ -11,6 +11,7 @@ pub use config::Config;
 pub use config::Full;
 pub use entries::ConfigPartialEq;
 pub use entry::Entry;
+pub use entry::EntryDisplay;
 pub use entry::EntryPartialEq;
 pub use entry::EntryRecord;
 pub use image::ShortOutput;

@@ -3,11 +3,11 @@ use Prim.Native.Nat.{_≤_, _-_}
 use native.Mathlib.Omega.{arith}
 use borrow.Author.Needs.{needs}
 use Rattle.config.proofs.Order.{rises, rising-from}
-use Rattle.config.proofs.Taken.{taken}
+use Rattle.config.proofs.Taken.{not-there, taken, went}
 use Rattle.config.proofs.config.Config.take_out.Needs as need
 
 pub returns-in-rest : need.returns-in-rest
-returns-in-rest c = (c .in-rest .ensures tt .takes (rises _ (c .args .self .now .rises)), refl)
+returns-in-rest c = not-there (c .args .self .now) (c .args .path) (c .in-rest .ensures tt .takes (rises _ (c .args .self .now .rises)))
 
 pub ghost-self : need.ghost-self
 ghost-self c =
@@ -18,4 +18,4 @@ ghost-self c =
 pub returns : need.returns
 returns c =
     let p = taken (c .args .self .now) (c .args .path) (c .in-Some .entry) (c .take-out .last .rows) (c .in-Some .ensures tt .takes) in
-    (p .was, record { entries-are = p .rows-are; lookups = p .lookup-take })
+    went (c .args .self .now) (c .args .path) (c .in-Some .entry) _ p refl
