@@ -8,7 +8,7 @@ use Rattle.schema.specs.declared.nodes.Node.{Node}
 use Rattle.schema.specs.declared.path.Path.{Path}
 use Rattle.config.specs.declared.entry.Entry.{Entry}
 use Rattle.config.specs.declared.config.Config.{Config}
-use Rattle.config.specs.declared.read.ImageFault.{ImageFault}
+use Rattle.config.specs.declared.image.ImageFault.{ImageFault}
 use Rattle.config.specs.Order.{rising}
 use Rattle.config.specs.Configs.{found, used}
 use Rattle.config.specs.Lawful.{Lawful}

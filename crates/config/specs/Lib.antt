@@ -2,5 +2,4 @@ pub mod Order
 pub mod Configs
 pub mod Lawful
 pub mod Images
-pub mod Reading
 pub mod Laws

@@ -1,9 +1,10 @@
--- Entries in the order of their paths.
+-- Entries: their order, and their form in bytes.
 use mathlib.Core.Bool.{Bool, true, _&&_}
 use mathlib.Core.List.{List, [], _∷_}
 use Prim.Native.Nat.{ℕ}
 use Rattle.table.specs.Dictionary.{sooner}
 use Rattle.schema.specs.declared.path.Path.{Path}
+use Rattle.bytes.specs.declared.form.Form.{Form}
 use Rattle.config.specs.declared.entry.Entry.{Entry}
 
 -- a path by its numbers
@@ -19,3 +20,8 @@ abbrev pub rising : List Entry → Bool
 rising [] = true
 rising (e ∷ []) = true
 rising (e ∷ (f ∷ rest)) = path-sooner (e .path) (f .path) && rising (f ∷ rest)
+
+-- node, three zero bytes, k1, k2, value
+abbrev pub entry-form : Entry → Form
+entry-form e =
+    record { a = e .path .node; b = 0; c = 0; d = 0; k1 = e .path .k1; k2 = e .path .k2; value = e .value }

@@ -10,7 +10,7 @@ use crate::entry::EntryPartialEq;
 use crate::entry::EntryRecord;
 use schema::Path;
 
-const UNUSED: Entry = Entry {
+pub(crate) const UNUSED: Entry = Entry {
     path: Path {
         node: 0,
         k1: 0,

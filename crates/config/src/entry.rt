@@ -1,10 +1,12 @@
 // An entry of a configuration, and the order of entries.
-ghost use Rattle.config.specs.Order.{path-sooner};
+ghost use Rattle.config.specs.Order.{entry-form, path-sooner};
 ghost use Rattle.std.specs.Orderings.{Decides};
 ghost use Rattle.fault.specs.Text.{spaced};
 ghost use Rattle.std.specs.declared.option.Option.the-variants.{Some};
 ghost use mathlib.Core.List.{[], _∷_};
 ghost use mathlib.Core.Path.{_≡_};
+use bytes::Coded;
+use bytes::Form;
 use schema::Path;
 use schema::PathPartialEq;
 use std::fmt;
@@ -45,6 +47,39 @@ pub impl Record for Entry as EntryRecord {
         } else {
             a.k2 < b.k2
         }
+    }
+}
+
+// Node, three zero bytes, k1, k2 and value.
+pub impl Coded for Entry as EntryCoded {
+    ghost form = { entry-form };
+
+    fn to_form(&self) -> Form {
+        let Path { node, k1, k2 } = self.path;
+        Form {
+            a: node,
+            b: 0,
+            c: 0,
+            d: 0,
+            k1,
+            k2,
+            value: self.value,
+        }
+    }
+
+    fn from_form(of: Form) -> Option<Entry> {
+        if of.b != 0 || of.c != 0 || of.d != 0 {
+            return None;
+        }
+        let path = Path {
+            node: of.a,
+            k1: of.k1,
+            k2: of.k2,
+        };
+        Some(Entry {
+            path,
+            value: of.value,
+        })
     }
 }
 

@@ -1,24 +1,36 @@
 // The image of a configuration as bytes.
 ghost use Rattle.config.specs.Configs.{used};
-ghost use Rattle.config.specs.Images.{Encoded, entry-bytes};
+ghost use Rattle.config.specs.Images.{Decoded, Encoded, Read};
+ghost use Rattle.config.specs.Order.{rising};
+ghost use Rattle.fault.specs.Reports.{plain};
+ghost use Rattle.schema.specs.Nodes.{nodes};
 ghost use mathlib.Core.Path.{_≡_};
 use crate::config::Config;
+use crate::entries::UNUSED;
 use crate::entry::Entry;
+use crate::entry::EntryCoded;
+use crate::entry::EntryRecord;
+use fault::Report;
+use schema::Schema;
 
 // The output is too short for the image of any configuration.
 #[derive(Clone, Copy)]
 pub struct ShortOutput;
 
-impl Entry {
-    // Node, three zero bytes, k1, k2 and value, the most significant byte of each first.
-    pub fn to_bytes(self) -> [u8; 16]
-        ensures { λ r. ⌜ r ≡ entry-bytes self ⌝ }
-    {
-        let [a, b, c, d] = self.path.k1.to_be_bytes();
-        let [e, f, g, h] = self.path.k2.to_be_bytes();
-        let [i, j, k, l] = self.value.to_be_bytes();
-        [self.path.node, 0, 0, 0, a, b, c, d, e, f, g, h, i, j, k, l]
+// The bytes are no image of a configuration that the schema allows.
+#[derive(Clone, Copy)]
+pub struct ImageFault;
+
+// Each path comes before the next one.
+fn rise(entries: &[Entry]) -> bool
+    ensures { λ r. ⌜ r ≡ rising (now (entries .entry)) ⌝ }
+{
+    for i in 1..entries.len() {
+        if !EntryRecord::before(entries[i - 1].path, entries[i].path) {
+            return false;
+        }
     }
+    true
 }
 
 impl Config {
@@ -29,11 +41,44 @@ impl Config {
         if out.len() < 769 {
             return Err(ShortOutput);
         }
-        out[0] = self.count as u8;
-        for i in 0..self.count {
-            let at = 1 + 16 * i;
-            out[at..at + 16].copy_from_slice(&self.entries[i].to_bytes());
+        match bytes::encode(self.entries(), out) {
+            Ok(length) => Ok(length),
+            Err(_) => Err(ShortOutput),
         }
-        Ok(1 + 16 * self.count)
+    }
+
+    // The entries of an image, if it has the form of one and the paths rise.
+    fn decode(image: &[u8]) -> Option<Config>
+        ensures { λ r. ⌜ Decoded (now (image .entry)) r ⌝ }
+    {
+        let mut entries = [UNUSED; 48];
+        let count = bytes::decode(image, &mut entries)?;
+        if !rise(&entries[0..count]) {
+            return None;
+        }
+        Some(Config { entries, count })
+    }
+
+    // The configuration whose image the bytes are, if the schema allows it.
+    pub fn read(schema: &Schema, image: &[u8]) -> Result<Config, ImageFault>
+        ensures { λ r. ⌜ Read (nodes (now (schema .entry))) (now (image .entry)) r ⌝ }
+    {
+        let Some(config) = Config::decode(image) else {
+            return Err(ImageFault);
+        };
+        if config.is_lawful(schema) {
+            Ok(config)
+        } else {
+            Err(ImageFault)
+        }
+    }
+}
+
+impl ImageFault {
+    // Refusal 12.
+    pub fn report(self) -> Report
+        ensures { λ r. ⌜ r ≡ plain 12 ⌝ }
+    {
+        Report::plain(12)
     }
 }

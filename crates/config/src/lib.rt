@@ -5,17 +5,18 @@ mod entry;
 mod image;
 mod lawful;
 mod laws;
-mod read;
 
 pub use config::Config;
 pub use config::Full;
 pub use entries::ConfigPartialEq;
 pub use entry::Entry;
+pub use entry::EntryCoded;
 pub use entry::EntryDisplay;
 pub use entry::EntryPartialEq;
 pub use entry::EntryRecord;
+pub use image::ImageFault;
 pub use image::ShortOutput;
 pub use laws::images_decide;
 pub use laws::paths_decide;
 pub use laws::reads_back;
-pub use read::ImageFault;
+

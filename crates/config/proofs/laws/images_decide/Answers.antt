@@ -1,4 +1,4 @@
-use Rattle.config.proofs.Decodes.{image-same}
+use Rattle.config.proofs.Images.{image-same}
 use Rattle.config.proofs.laws.images_decide.Needs as need
 
 pub returns : need.returns

@@ -2,7 +2,7 @@ use mathlib.Core.Path.{refl, sym}
 use Rattle.std.specs.declared.result.Result.the-variants.{Ok, Err}
 use Rattle.config.specs.Laws.{Reads-back}
 use Rattle.config.specs.Configs.{used}
-use Rattle.config.proofs.Decodes.{image-same}
+use Rattle.config.proofs.Images.{image-same}
 use Rattle.config.proofs.laws.reads_back.Needs as need
 
 back : Reads-back

@@ -1,9 +1,9 @@
-use mathlib.Core.Path.{_≡_, sym, subst, _∙_}
+use mathlib.Core.Path.{sym, subst, _∙_}
 use Rattle.std.proofs.shelf.Tests.{false≢true}
 use Rattle.schema.specs.Nodes.{nodes}
 use Rattle.config.specs.Configs.{used}
 use Rattle.config.specs.Lawful.{Lawful}
-use Rattle.config.proofs.Decodes.{image-same}
+use Rattle.config.proofs.Images.{image-same}
 use Rattle.config.proofs.config.Config.read.Needs as need
 
 pub returns-else-is-lawful : need.returns-else-is-lawful

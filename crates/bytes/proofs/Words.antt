@@ -1,14 +1,12 @@
--- Numbers and entries, from their bytes.
+-- Numbers and forms, from their bytes.
 use mathlib.Core.Path.{_≡_, refl, sym, ap, _∙_}
 use mathlib.Core.List.{List, [], _∷_, _++_}
 use Prim.Native.Nat.{ℕ, _+_, _*_, _/_, _%_, _<_, _≤_}
 use native.Mathlib.Omega.{arith}
 use lib.ListN.{length, getD, take, drop}
-use Rattle.std.proofs.shelf.Lists.{take-more, drop-more, take-all, take-append-drop, drop-drop, length-drop, append-assoc}
-use Rattle.schema.specs.declared.path.Path.{Path}
-use Rattle.config.specs.declared.entry.Entry.{Entry}
-use Rattle.config.specs.Images.{word, entry-bytes}
-use Rattle.config.proofs.Order.{same-path}
+use Rattle.std.proofs.shelf.Lists.{drop-more, take-all, take-append-drop, drop-drop, length-drop}
+use Rattle.bytes.specs.declared.form.Form.{Form}
+use Rattle.bytes.specs.Forms.{word, form-bytes}
 
 pub word-of : (a b c d n : ℕ) → a < 256 → b < 256 → c < 256 → d < 256 → n ≡ a * 16777216 + b * 65536 + c * 256 + d → word n ≡ a ∷ b ∷ c ∷ d ∷ []
 word-of a b c d n ha hb hc hd e =
@@ -35,16 +33,17 @@ parts bs n =
     ∙ ap (λ l. take 4 bs ++ l) (take-append-drop 4 (drop 4 bs))
     ∙ take-append-drop 4 bs)
 
-pub entry-from : (bs : List ℕ) (k1 k2 v : ℕ) → length bs ≡ 16 → getD bs 1 0 ≡ 0 → getD bs 2 0 ≡ 0 → getD bs 3 0 ≡ 0 → word k1 ≡ take 4 (drop 4 bs) → word k2 ≡ take 4 (drop 8 bs) → word v ≡ take 4 (drop 12 bs) → bs ≡ entry-bytes (record { path = record { node = getD bs 0 0; k1 = k1; k2 = k2 }; value = v })
-entry-from bs k1 k2 v n z1 z2 z3 w1 w2 w3 =
-    let front : take 4 bs ≡ getD bs 0 0 ∷ 0 ∷ 0 ∷ 0 ∷ [] = four bs 0 (omega arith) ∙ cc in
+pub form-from : (bs : List ℕ) (k1 k2 v : ℕ) → length bs ≡ 16 → word k1 ≡ take 4 (drop 4 bs) → word k2 ≡ take 4 (drop 8 bs) → word v ≡ take 4 (drop 12 bs) → bs ≡ form-bytes (record { a = getD bs 0 0; b = getD bs 1 0; c = getD bs 2 0; d = getD bs 3 0; k1 = k1; k2 = k2; value = v })
+form-from bs k1 k2 v n w1 w2 w3 =
+    let head = getD bs 0 0 ∷ getD bs 1 0 ∷ getD bs 2 0 ∷ getD bs 3 0 ∷ [] in
+    let front : take 4 bs ≡ head = four bs 0 (omega arith) in
     parts bs n
     ∙ ap (λ l. l ++ (take 4 (drop 4 bs) ++ (take 4 (drop 8 bs) ++ take 4 (drop 12 bs)))) front
-    ∙ ap (λ l. (getD bs 0 0 ∷ 0 ∷ 0 ∷ 0 ∷ []) ++ (l ++ (take 4 (drop 8 bs) ++ take 4 (drop 12 bs)))) (sym w1)
-    ∙ ap (λ l. (getD bs 0 0 ∷ 0 ∷ 0 ∷ 0 ∷ []) ++ (word k1 ++ (l ++ take 4 (drop 12 bs)))) (sym w2)
-    ∙ ap (λ l. (getD bs 0 0 ∷ 0 ∷ 0 ∷ 0 ∷ []) ++ (word k1 ++ (word k2 ++ l))) (sym w3)
+    ∙ ap (λ l. head ++ (l ++ (take 4 (drop 8 bs) ++ take 4 (drop 12 bs)))) (sym w1)
+    ∙ ap (λ l. head ++ (word k1 ++ (l ++ take 4 (drop 12 bs)))) (sym w2)
+    ∙ ap (λ l. head ++ (word k1 ++ (word k2 ++ l))) (sym w3)
 
--- a number is known by its bytes, and an entry by its own
+-- a number is known by its bytes, and a form by its own
 word-same : (m n : ℕ) → word m ≡ word n → m ≡ n
 word-same m n e =
     let a : m / 16777216 ≡ n / 16777216 = cc in
@@ -53,17 +52,21 @@ word-same m n e =
     let d : m % 256 ≡ n % 256 = cc in
     omega arith
 
-entry-made : Path → ℕ → Entry
-entry-made p v = record { path = p; value = v }
+form-made : ℕ → ℕ → ℕ → ℕ → ℕ → ℕ → ℕ → Form
+form-made a b c d x y z = record { a = a; b = b; c = c; d = d; k1 = x; k2 = y; value = z }
 
-pub entry-same : (e f : Entry) → entry-bytes e ≡ entry-bytes f → e ≡ f
-unfolding entry-made
-entry-same e f h =
-    let n : e .path .node ≡ f .path .node = cc in
-    let a : word (e .path .k1) ≡ word (f .path .k1) = cc in
-    let b : word (e .path .k2) ≡ word (f .path .k2) = cc in
-    let v : word (e .value) ≡ word (f .value) = cc in
-    let p : e .path ≡ f .path = same-path (e .path) (f .path) n (word-same _ _ a) (word-same _ _ b) in
-    let w : e .value ≡ f .value = word-same (e .value) (f .value) v in
-    let same : entry-made (e .path) (e .value) ≡ entry-made (f .path) (f .value) = cc in
+pub form-same : (e f : Form) → form-bytes e ≡ form-bytes f → e ≡ f
+unfolding form-made
+form-same e f h =
+    let a : e .a ≡ f .a = cc in
+    let b : e .b ≡ f .b = cc in
+    let c : e .c ≡ f .c = cc in
+    let d : e .d ≡ f .d = cc in
+    let x : word (e .k1) ≡ word (f .k1) = cc in
+    let y : word (e .k2) ≡ word (f .k2) = cc in
+    let z : word (e .value) ≡ word (f .value) = cc in
+    let x′ : e .k1 ≡ f .k1 = word-same (e .k1) (f .k1) x in
+    let y′ : e .k2 ≡ f .k2 = word-same (e .k2) (f .k2) y in
+    let z′ : e .value ≡ f .value = word-same (e .value) (f .value) z in
+    let same : form-made (e .a) (e .b) (e .c) (e .d) (e .k1) (e .k2) (e .value) ≡ form-made (f .a) (f .b) (f .c) (f .d) (f .k1) (f .k2) (f .value) = cc in
     same

@@ -1,9 +1,8 @@
-use mathlib.Core.Path.{_≡_, sym, _∙_}
-use Prim.Native.Nat.{_+_, _<_}
+use mathlib.Core.Path.{sym, _∙_}
+use Prim.Native.Nat.{_+_}
 use lib.ListN.{getD}
-use borrow.Author.Needs.{needs}
-use Rattle.config.proofs.Words.{four, word-of}
-use Rattle.config.proofs.read.word_at.Needs as need
+use Rattle.bytes.proofs.Words.{four, word-of}
+use Rattle.bytes.proofs.form.word_at.Needs as need
 
 pub returns : need.returns
 returns c =
