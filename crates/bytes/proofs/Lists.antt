@@ -44,9 +44,10 @@ module _ {X : Type 0} (form : X → Form) where
       let grown : (count ∷ joined (record-bytes form) (take i xs)) ++ record-bytes form (getD xs i d) ≡ count ∷ joined (record-bytes form) (take (i + 1) xs) =
       joined-more (record-bytes form) (count ∷ []) (take i xs) (getD xs i d) ∙ ap (λ l. count ∷ joined (record-bytes form) l) (sym (take-more xs i d inside)) in
       let back : drop (1 + 16 * (i + 1)) (putMid at k out bytes) ≡ drop (1 + 16 * (i + 1)) out = drop-putMid at k out bytes (1 + 16 * (i + 1)) (omega arith) (omega arith) (omega arith) in
-      let further : (l : List ℕ) → drop (1 + 16 * (i + 1)) l ≡ drop 16 (drop at l) = λ l. sym (drop-drop 16 at l ∙ ap (λ n. drop n l) (omega arith)) in
-      (front ∙ ap (λ l. l ++ bytes) (w .0) ∙ ap (λ b. (count ∷ joined (record-bytes form) (take i xs)) ++ b) e ∙ grown
-      , back ∙ further out ∙ ap (drop 16) (w .1) ∙ sym (further start))
+      let further : (l : List ℕ) → drop (1 + 16 * (i + 1)) l ≡ drop 16 (drop at l) = λ l. sym (drop-drop 16 at l ∙ ap (λ n. drop n l) (omega arith)) in (
+        front ∙ ap (λ l. l ++ bytes) (w .0) ∙ ap (λ b. (count ∷ joined (record-bytes form) (take i xs)) ++ b) e ∙ grown,
+        back ∙ further out ∙ ap (drop 16) (w .1) ∙ sym (further start),
+      )
 
   pub written-all : (count : ℕ) (xs : List X) (start out : List ℕ) → length xs ≡ count → Written count xs count start out → out ≡ counted form xs ++ drop (1 + 16 * count) start
   unfolding counted
@@ -86,14 +87,15 @@ module _ {X : Type 0} (form : X → Form) where
   pub filled-more : (bytes : List ℕ) (count i : ℕ) (start slots : List X) (x : X) → i < length slots → slot-bytes bytes i ≡ record-bytes form x → Filled bytes count i start slots → Filled bytes count (i + 1) start (set slots i x)
   filled-more bytes count i start slots x room slot f =
       let next : 1 + 16 * (i + 1) ≡ 1 + 16 * i + 16 = omega arith in
-      let further : (l : List X) → drop (i + 1) l ≡ drop 1 (drop i l) = λ l. sym (drop-drop 1 i l) in
-      (ap (λ n. take n bytes) next
-      ∙ take-add (1 + 16 * i) 16 bytes
-      ∙ ap (λ l. l ++ slot-bytes bytes i) (f .0)
-      ∙ ap (λ l. (count ∷ joined (record-bytes form) (take i slots)) ++ l) slot
-      ∙ joined-more (record-bytes form) (count ∷ []) (take i slots) x
-      ∙ ap (λ l. count ∷ joined (record-bytes form) l) (sym (take-more-set slots i x room))
-      , drop-set-lt (i + 1) slots i x (omega arith) ∙ further slots ∙ ap (drop 1) (f .1) ∙ sym (further start))
+      let further : (l : List X) → drop (i + 1) l ≡ drop 1 (drop i l) = λ l. sym (drop-drop 1 i l) in (
+        ap (λ n. take n bytes) next
+            ∙ take-add (1 + 16 * i) 16 bytes
+            ∙ ap (λ l. l ++ slot-bytes bytes i) (f .0)
+            ∙ ap (λ l. (count ∷ joined (record-bytes form) (take i slots)) ++ l) slot
+            ∙ joined-more (record-bytes form) (count ∷ []) (take i slots) x
+            ∙ ap (λ l. count ∷ joined (record-bytes form) l) (sym (take-more-set slots i x room)),
+        drop-set-lt (i + 1) slots i x (omega arith) ∙ further slots ∙ ap (drop 1) (f .1) ∙ sym (further start),
+      )
 
   pub filled-all : (bytes : List ℕ) (count : ℕ) (start slots : List X) → length bytes ≡ 1 + 16 * count → count ≤ length slots → Filled bytes count count start slots → bytes ≡ counted form (take count slots)
   unfolding counted

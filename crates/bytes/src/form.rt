@@ -32,7 +32,24 @@ impl Form {
         let [e, f, g, h] = self.k1.to_be_bytes();
         let [i, j, k, l] = self.k2.to_be_bytes();
         let [m, n, o, p] = self.value.to_be_bytes();
-        [self.a, self.b, self.c, self.d, e, f, g, h, i, j, k, l, m, n, o, p]
+        [
+            self.a,
+            self.b,
+            self.c,
+            self.d,
+            e,
+            f,
+            g,
+            h,
+            i,
+            j,
+            k,
+            l,
+            m,
+            n,
+            o,
+            p,
+        ]
     }
 
     // The form of these bytes; none unless there are 16.

@@ -19,4 +19,3 @@ pub use image::ShortOutput;
 pub use laws::images_decide;
 pub use laws::paths_decide;
 pub use laws::reads_back;
-

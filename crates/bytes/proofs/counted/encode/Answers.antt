@@ -12,9 +12,10 @@ use Rattle.bytes.proofs.counted.encode.Needs.{then-count-gt255·by·then-count
 
 pub returns-then-count-gt255 : need.returns-then-count-gt255
 returns-then-count-gt255 g c =
-    let size = length-counted (g .T·Coded .form) (c .args .records .now) in
-    (λ few. elim (c .then-count-gt255 .came) [ then-count-gt255·by·then-count-gt255 w ↦ omega (arith, w .if-count-gt255 .taken) | then-count-gt255·by·else-count-gt255·then-out-count w ↦ omega (arith, size, w .if-out-count .taken) ]
-    , refl)
+    let size = length-counted (g .T·Coded .form) (c .args .records .now) in (
+      λ few. elim (c .then-count-gt255 .came) [ then-count-gt255·by·then-count-gt255 w ↦ omega (arith, w .if-count-gt255 .taken) | then-count-gt255·by·else-count-gt255·then-out-count w ↦ omega (arith, size, w .if-out-count .taken) ],
+      refl,
+    )
 
 pub loop-i-holds : need.loop-i-holds
 loop-i-holds g c = let room : 0 < length (c .args .out .now) = omega arith in (take-more-set (c .args .out .now) 0 _ room, refl)
@@ -36,9 +37,10 @@ returns g c =
     let start = set (c .args .out .now) 0 (length xs) in
     let done : c .loop-i .i ≡ length xs = omega (arith, c .loop-i-test .left, c .loop-i .kept .i-end) in
     let inv : Written form (length xs) xs (length xs) start (c .loop-i .out) =
-    subst (λ n. Written form (length xs) xs n start (c .loop-i .out)) done (c .loop-i .inv) in
-    (omega arith
-    , sym (length-counted form xs)
-    , c .if-out-count .left
-    , written-all form (length xs) xs start (c .loop-i .out) refl inv
-    ∙ ap (λ l. counted form xs ++ l) (drop-set-lt (1 + 16 * length xs) (c .args .out .now) 0 (length xs) (omega arith)))
+    subst (λ n. Written form (length xs) xs n start (c .loop-i .out)) done (c .loop-i .inv) in (
+      omega arith,
+      sym (length-counted form xs),
+      c .if-out-count .left,
+      written-all form (length xs) xs start (c .loop-i .out) refl inv
+          ∙ ap (λ l. counted form xs ++ l) (drop-set-lt (1 + 16 * length xs) (c .args .out .now) 0 (length xs) (omega arith)),
+    )
