@@ -1,8 +1,10 @@
 -- A configuration as the list of its entries, and what it has at each path.
 use mathlib.Core.Path.{_≡_}
+use mathlib.Core.Bool.{Bool, cond}
 use mathlib.Core.List.{List}
 use Prim.Native.Nat.{ℕ, _≤_, _<_}
 use lib.ListN.{length, take}
+use Rattle.std.specs.shelf.Lists.{kept-by}
 use Rattle.std.specs.declared.option.Option.{Option}
 use Rattle.std.specs.declared.option.Option.the-variants.{None}
 use Rattle.std.specs.declared.result.Result.{Result}
@@ -52,3 +54,8 @@ pub record Take-answer (c : Config) (p : Path) (d : Config) (r : Option Entry) :
   pub taken : r ≡ found (used c) p
   pub rest : Entry-taken (used c) p (used d)
   pub absent : r ≡ None → d ≡ c
+
+-- The entries at chosen paths are kept: what is found at a chosen path is found as before, and at another path nothing is.
+pub record Retained (chosen : Path → Bool) (before after : List Entry) : Type 0 where
+  pub entries-are : after ≡ kept-by (λ e. chosen (e .path)) before
+  pub lookups : (p : Path) → found after p ≡ cond (chosen p) (found before p) None

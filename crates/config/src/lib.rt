@@ -1,4 +1,5 @@
 // Configurations: entries at paths in rising order, and their images as bytes.
+mod choice;
 mod config;
 mod entries;
 mod entry;
@@ -6,6 +7,7 @@ mod image;
 mod lawful;
 mod laws;
 
+pub use choice::Choice;
 pub use config::Config;
 pub use config::Full;
 pub use entries::ConfigPartialEq;

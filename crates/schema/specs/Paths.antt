@@ -57,12 +57,19 @@ key-ranges ns (Leaf l) = leaf-keys ns (l .parent)
 abbrev pub keys-fit : Range × Range → Path → Bool
 keys-fit ranges p = in-range (ranges .0) (p .k1) && in-range (ranges .1) (p .k2)
 
+-- the entry of list n with this path's outer key, and that with both its keys
+abbrev pub outer-entry : Path → ℕ → Path
+outer-entry p n = record { node = n; k1 = p .k1; k2 = 0 }
+
+abbrev pub inner-entry : Path → ℕ → Path
+inner-entry p n = record { node = n; k1 = p .k1; k2 = p .k2 }
+
 -- The path of the entry of the list around a path; there is none at the top. A list stands in a list at the top, and a leaf
 -- may stand in a list of either depth, so that it has all keys of that list.
 abbrev pub around-node : Path → Option Node → Option Path
 around-node p None = None
-around-node p (Some (list-node l)) = mapped (λ n. record { node = n; k1 = p .k1; k2 = 0 }) (l .parent)
-around-node p (Some (Leaf l)) = mapped (λ n. record { node = n; k1 = p .k1; k2 = p .k2 }) (l .parent)
+around-node p (Some (list-node l)) = mapped (outer-entry p) (l .parent)
+around-node p (Some (Leaf l)) = mapped (inner-entry p) (l .parent)
 
 abbrev pub around : List Node → Path → Option Path
 around ns p = around-node p (at ns (p .node))
