@@ -1,5 +1,5 @@
 -- Entries: their order, and their form in bytes.
-use mathlib.Core.Bool.{Bool, true, _&&_}
+use mathlib.Core.Bool.{Bool, true, not, _&&_}
 use mathlib.Core.List.{List, [], _∷_}
 use Prim.Native.Nat.{ℕ}
 use Rattle.table.specs.Dictionary.{sooner}
@@ -14,6 +14,10 @@ numbers p = p .node ∷ (p .k1 ∷ (p .k2 ∷ []))
 -- paths compare by node, then by k1, then by k2
 abbrev pub path-sooner : Path → Path → Bool
 path-sooner a b = sooner (numbers a) (numbers b)
+
+-- neither path comes before the other
+abbrev pub equal-paths : Path → Path → Bool
+equal-paths a b = not (path-sooner a b) && not (path-sooner b a)
 
 -- each path comes before the next one
 abbrev pub rising : List Entry → Bool

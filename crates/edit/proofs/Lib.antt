@@ -1,0 +1,4 @@
+pub mod Judged
+pub mod Under
+pub mod Changed
+pub mod Stays

@@ -1,0 +1,5 @@
+pub mod Items
+pub mod Lists
+pub mod Numbers
+pub mod Does
+pub mod Applied

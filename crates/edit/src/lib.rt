@@ -1,0 +1,17 @@
+// Edits of a configuration: items, edit lists, and the three error options.
+//
+// An item has an operation, a target and a value. It is judged when its turn comes, on the configuration that the items before
+// it left. The error option says what a refused item does to the others.
+mod apply;
+mod faults;
+mod held;
+mod item;
+mod list;
+
+pub use faults::ItemFault;
+pub use faults::ItemFaultFrom;
+pub use item::Item;
+pub use item::ItemCoded;
+pub use item::Operation;
+pub use held::EditList;
+pub use list::ListFault;
