@@ -21,11 +21,12 @@ use Rattle.config.specs.Configs.{found, path-of, with-entry}
 use Rattle.config.specs.Order.{equal-paths, path-sooner, rising}
 use Rattle.config.specs.declared.entry.Entry.{Entry}
 use Rattle.config.proofs.Order.{total, rises}
+use Rattle.edit.specs.declared.faults.ItemFault.{ItemFault}
 use Rattle.edit.specs.declared.item.Item.{Item}
 use Rattle.edit.specs.declared.item.Operation.{Operation}
 use Rattle.edit.specs.declared.item.Operation.the-variants.{Merge, Replace, Create, Delete, Remove}
 use Rattle.edit.specs.Applied.{Performed}
-use Rattle.edit.specs.Does.{after-at, changed, cleared, clears, entry-of, judged, present, put-in, puts, stays, taken-out, target-after, under}
+use Rattle.edit.specs.Does.{after-at, changed, cleared, clears, does, done, entry-of, judged, present, put-in, puts, stays, taken-out, target-after, under}
 use Rattle.edit.proofs.Under.{equal-is, equal-self, not-equal, under-self}
 
 -- an operation that does not put clears
@@ -141,3 +142,10 @@ changed-puts ns es op n i h = sym (cond-true _ _ _ h)
 pub changed-else : (ns : List Node) (es : List Entry) (op : Operation) (n : Node) (i : Item) → puts op ≡ false → cleared ns es op (i .path) ≡ changed ns es op n i
 unfolding changed
 changed-else ns es op n i h = sym (cond-false _ _ _ h)
+
+-- what one item does, from what performing it says
+pub does-ok : (ns : List Node) (es : List Entry) (i : Item) (fs : List Entry) → Performed ns es i fs → does ns es i ≡ Ok fs
+does-ok ns es i fs p = ap (done ns es i) (p .lawful) ∙ ap (λ l. Ok l) (sym (p .entries))
+
+pub does-err : (ns : List Node) (es : List Entry) (i : Item) (f : ItemFault) → judged ns es i ≡ Err f → does ns es i ≡ Err f
+does-err ns es i f e = ap (done ns es i) e

@@ -2,3 +2,5 @@ pub mod Judged
 pub mod Under
 pub mod Changed
 pub mod Stays
+pub mod Steps
+pub mod Edited

@@ -3,3 +3,5 @@ pub mod Lists
 pub mod Numbers
 pub mod Does
 pub mod Applied
+pub mod Options
+pub mod Edited

@@ -2,12 +2,19 @@
 //
 // An item has an operation, a target and a value. It is judged when its turn comes, on the configuration that the items before
 // it left. The error option says what a refused item does to the others.
-mod apply;
+
+
 mod faults;
 mod held;
 mod item;
 mod list;
+mod one;
+mod option;
+mod run;
 
+pub use one::apply;
+pub use run::EditFault;
+pub use run::edit;
 pub use faults::ItemFault;
 pub use faults::ItemFaultFrom;
 pub use item::Item;
@@ -15,3 +22,4 @@ pub use item::ItemCoded;
 pub use item::Operation;
 pub use held::EditList;
 pub use list::ListFault;
+pub use option::ErrorOption;

@@ -2,7 +2,7 @@ use mathlib.Core.Path.{_≡_, sym, ap, _∙_}
 use Rattle.std.specs.declared.result.Result.the-variants.{Err}
 use Rattle.std.proofs.shelf.Results.{err-from-errBy}
 use Rattle.edit.proofs.Judged.{fine, no-such, wrong-moment, wrong-path, wrong-value}
-use Rattle.edit.proofs.apply.judge.Needs as need
+use Rattle.edit.proofs.one.judge.Needs as need
 
 pub returns-in-rest : need.returns-in-rest
 returns-in-rest c = no-such _ _ (c .args .item) (c .in-rest .ensures tt .value)

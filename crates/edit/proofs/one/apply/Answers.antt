@@ -9,7 +9,7 @@ use Rattle.config.proofs.Places.{used-length}
 use Rattle.edit.specs.Does.{cleared, entry-of, put-in, present}
 use Rattle.edit.proofs.Changed.{changed-else, changed-puts, performed, room}
 use Rattle.edit.proofs.Judged.{has-room, judged-passes}
-use Rattle.edit.proofs.apply.apply.Needs as need
+use Rattle.edit.proofs.one.apply.Needs as need
 
 pub put-in-requires : need.put-in-requires
 put-in-requires c κs =
