@@ -52,7 +52,7 @@ module _ (ns : List Node) (es : List Entry) (i : Item) where
       fine v m = ap (λ r. checked r op n) m ∙ sym (cond-true _ _ _ v) ∙ from-value
 
 -- ---- what an item that is not refused fulfils
-never : {A B : Type 0} {x : A} {y : B} → Err x ≡ Ok y → ⊥
+pub never : {A B : Type 0} {x : A} {y : B} → Err x ≡ Ok y → ⊥
 never e = let z : _≡_ {A = ℕ} 0 1 = cc in omega arith
 
 -- no condition of a list holds

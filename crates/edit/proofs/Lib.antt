@@ -4,3 +4,4 @@ pub mod Changed
 pub mod Stays
 pub mod Steps
 pub mod Edited
+pub mod Lawful

@@ -35,11 +35,14 @@ module _ (ns : List Node) where
   -- one step or two
   under-steps : (p q : Path) (o : Option Path) → around ns q ≡ o → inside ns p o ≡ true → (a : Path) × (around ns q ≡ Some a) × ((a ≡ p → ⊥) → around ns a ≡ Some p)
   under-steps p q None e h = absurd (both-ways false refl h)
-  under-steps p q (Some a) e h =
-      (a, e, λ ne. ⊎-elim
-      (λ (here : equal-paths a p ≡ true). absurd (ne (equal-is a p here)))
-      (λ (further : is-at (around ns a) p ≡ true). at-that (around ns a) refl further)
-      (or-cases (equal-paths a p) (is-at (around ns a) p) h))
+  under-steps p q (Some a) e h = (
+    a,
+    e,
+    λ ne. ⊎-elim
+        (λ (here : equal-paths a p ≡ true). absurd (ne (equal-is a p here)))
+        (λ (further : is-at (around ns a) p ≡ true). at-that (around ns a) refl further)
+        (or-cases (equal-paths a p) (is-at (around ns a) p) h),
+  )
     where
       at-that : (o : Option Path) → around ns a ≡ o → is-at o p ≡ true → around ns a ≡ Some p
       at-that None e h = absurd (both-ways false refl h)

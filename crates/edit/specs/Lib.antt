@@ -5,3 +5,4 @@ pub mod Does
 pub mod Applied
 pub mod Options
 pub mod Edited
+pub mod Laws

@@ -25,13 +25,19 @@ impl Operation {
     fn puts(self) -> bool
         ensures { λ r. ⌜ r ≡ puts self ⌝ }
     {
-        matches!(self, Operation::Merge | Operation::Replace | Operation::Create)
+        matches!(
+            self,
+            Operation::Merge | Operation::Replace | Operation::Create
+        )
     }
 
     fn clears(self) -> bool
         ensures { λ r. ⌜ r ≡ clears self ⌝ }
     {
-        matches!(self, Operation::Replace | Operation::Delete | Operation::Remove)
+        matches!(
+            self,
+            Operation::Replace | Operation::Delete | Operation::Remove
+        )
     }
 
     fn needs_absent(self) -> bool
@@ -103,7 +109,12 @@ fn value_lawful(operation: Operation, node: Node, value: u32) -> bool
 }
 
 // What the configuration has against an item that is lawful in itself.
-fn check_moment(schema: &Schema, config: &Config, operation: Operation, path: Path) -> Result<(), ItemFault>
+fn check_moment(
+    schema: &Schema,
+    config: &Config,
+    operation: Operation,
+    path: Path,
+) -> Result<(), ItemFault>
     ensures { λ r. ⌜ r ≡ first-of (moment (nodes (now (schema .entry))) (used (now (config .entry))) operation path) ⌝ }
 {
     if config.get(path).is_some() {

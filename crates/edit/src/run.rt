@@ -10,10 +10,10 @@ ghost use lib.ListN.{length};
 ghost use Rattle.std.specs.Options.{isSome};
 ghost use mathlib.Core.Bool.{true};
 ghost use mathlib.Core.Path.{_≡_};
-use crate::one::apply;
 use crate::faults::ItemFault;
 use crate::held::EditList;
 use crate::item::Item;
+use crate::one::apply;
 use crate::option::ErrorOption;
 use config::Config;
 use fault::Report;
@@ -60,7 +60,14 @@ fn perform_each(schema: &Schema, config: &mut Config, list: &[Item]) -> u32
 }
 
 // How many items the option keeps where one is refused, and what it leaves: `tried` is the configuration before that one.
-fn keep(schema: &Schema, config: &mut Config, list: &[Item], option: ErrorOption, tried: Config, item: u32) -> u32
+fn keep(
+    schema: &Schema,
+    config: &mut Config,
+    list: &[Item],
+    option: ErrorOption,
+    tried: Config,
+    item: u32,
+) -> u32
     requires few { ⌜ length (now list) ≤ 16 ⌝ }
     requires above { ⌜ 0 < item ⌝ }
     requires tries { ⌜ used tried ≡ until (does (nodes (now schema))) (used (now config)) (now list) ⌝ }
@@ -80,7 +87,12 @@ fn keep(schema: &Schema, config: &mut Config, list: &[Item], option: ErrorOption
 }
 
 // Performs the edit list by the error option. The first refused item's fault is told.
-pub fn edit(schema: &Schema, config: &mut Config, list: &EditList, option: ErrorOption) -> Result<(), EditFault>
+pub fn edit(
+    schema: &Schema,
+    config: &mut Config,
+    list: &EditList,
+    option: ErrorOption,
+) -> Result<(), EditFault>
     ensures { λ r. ⌜ Edited (nodes (now (schema .entry))) option (now (config .entry)) (items (now (list .entry))) (now (config .exit)) r ⌝ }
 {
     let mut tried = *config;

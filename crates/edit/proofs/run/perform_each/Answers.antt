@@ -22,20 +22,25 @@ loop-i-again c =
     let inv = c .loop-i .inv in
     let after = used (c .apply .last .config) in
     let rest = drop (i + 1) list in
-    elim (c .match-apply .came) [ in-Ok w ↦
-    let e = does-ok ns es _ after (w .in-Ok .ensures tt) in
-    let count : performed (does ns) es (drop i list) ≡ performed (does ns) after rest + 1 = at-drop-more (performed (does ns) es) list i _ lt ∙ performed-ok (does ns) es _ rest after e in
-    (omega (arith, inv .0, w .done-is)
-    , sym (through-ok (does ns) es _ rest after e) ∙ sym (at-drop-more (through (does ns) es) list i _ lt) ∙ inv .1
-    , omega (arith, inv .2, count, w .done-is)) | in-Err w ↦
-    let h = w .in-Err .ensures tt in
-    let e = does-err ns es _ (w .in-Err .field-0) (h .0) in
-    let same : after ≡ es = ap used (h .1) in
-    let count : performed (does ns) es (drop i list) ≡ performed (does ns) es rest = at-drop-more (performed (does ns) es) list i _ lt ∙ performed-err (does ns) es _ rest (w .in-Err .field-0) e in
-    let moved : performed (does ns) after rest ≡ performed (does ns) es rest = ap (λ l. performed (does ns) l rest) same in
-    (omega (arith, inv .0, w .done-is)
-    , ap (λ l. through (does ns) l rest) same ∙ sym (through-err (does ns) es _ rest (w .in-Err .field-0) e) ∙ sym (at-drop-more (through (does ns) es) list i _ lt) ∙ inv .1
-    , omega (arith, inv .2, count, moved, w .done-is)) ]
+    elim (c .match-apply .came) [
+      | in-Ok w ↦
+          let e = does-ok ns es _ after (w .in-Ok .ensures tt) in
+          let count : performed (does ns) es (drop i list) ≡ performed (does ns) after rest + 1 = at-drop-more (performed (does ns) es) list i _ lt ∙ performed-ok (does ns) es _ rest after e in (
+            omega (arith, inv .0, w .done-is),
+            sym (through-ok (does ns) es _ rest after e) ∙ sym (at-drop-more (through (does ns) es) list i _ lt) ∙ inv .1,
+            omega (arith, inv .2, count, w .done-is),
+          )
+      | in-Err w ↦
+          let h = w .in-Err .ensures tt in
+          let e = does-err ns es _ (w .in-Err .field-0) (h .0) in
+          let same : after ≡ es = ap used (h .1) in
+          let count : performed (does ns) es (drop i list) ≡ performed (does ns) es rest = at-drop-more (performed (does ns) es) list i _ lt ∙ performed-err (does ns) es _ rest (w .in-Err .field-0) e in
+          let moved : performed (does ns) after rest ≡ performed (does ns) es rest = ap (λ l. performed (does ns) l rest) same in (
+            omega (arith, inv .0, w .done-is),
+            ap (λ l. through (does ns) l rest) same ∙ sym (through-err (does ns) es _ rest (w .in-Err .field-0) e) ∙ sym (at-drop-more (through (does ns) es) list i _ lt) ∙ inv .1,
+            omega (arith, inv .2, count, moved, w .done-is),
+          )
+    ]
 
 pub returns : need.returns
 returns c =

@@ -31,9 +31,10 @@ loop-i-again c =
     let i = c .loop-i .i in
     let list = c .args .list .now in
     let lt = c .loop-i-test .taken in
-    let e = does-ok ns es _ (used (c .apply .last .config)) (c .in-rest .ensures tt) in
-    (sym (until-ok (does ns) es _ (drop (i + 1) list) (used (c .apply .last .config)) e) ∙ sym (at-drop-more (until (does ns) es) list i _ lt) ∙ c .loop-i .inv .0
-    , sym (refused-ok (does ns) es _ (drop (i + 1) list) i (used (c .apply .last .config)) e) ∙ sym (at-drop-more (refused-after (does ns) i es) list i _ lt) ∙ c .loop-i .inv .1)
+    let e = does-ok ns es _ (used (c .apply .last .config)) (c .in-rest .ensures tt) in (
+      sym (until-ok (does ns) es _ (drop (i + 1) list) (used (c .apply .last .config)) e) ∙ sym (at-drop-more (until (does ns) es) list i _ lt) ∙ c .loop-i .inv .0,
+      sym (refused-ok (does ns) es _ (drop (i + 1) list) i (used (c .apply .last .config)) e) ∙ sym (at-drop-more (refused-after (does ns) i es) list i _ lt) ∙ c .loop-i .inv .1,
+    )
 
 pub returns : need.returns
 returns c =
