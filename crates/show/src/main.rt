@@ -1,5 +1,9 @@
 // One task from start to end: the configuration of a branch switch is read from its image, changed and written again; then
-// three refusals.
+// three refusals, an edit list under each error option with the verdict on what it leaves, and writes of a block while power
+// fails.
+mod devices;
+mod edits;
+
 use amend::Amended;
 use amend::Change;
 use amend::amend;
@@ -11,6 +15,7 @@ use fault::ReportDisplay;
 use schema::NodeRow;
 use schema::Path;
 use schema::Schema;
+use std::alloc::Global;
 use std::error::AnyError;
 
 // Node 1 is the list of interfaces, with keys 1 to 9 and at most 3 entries. Node 2 is the mandatory MTU of an interface, 64
@@ -86,7 +91,7 @@ fn path(node: u8, k1: u32) -> Path {
     Path { node, k1, k2: 0 }
 }
 
-fn show_entries(rt: &impl Print, config: &Config) -> Result<(), AnyError> {
+pub(crate) fn show_entries(rt: &impl Print, config: &Config) -> Result<(), AnyError> {
     for entry in config.entries() {
         println!(rt, "  {}", *entry)?;
     }
@@ -148,7 +153,7 @@ fn refusals(rt: &impl Print, schema: &Schema) -> Result<(), AnyError> {
     Ok(())
 }
 
-fn run(rt: &impl Print) -> Result<(), AnyError> {
+fn run<R: Print + Alloc<A = Global>>(rt: &R) -> Result<(), AnyError> {
     let schema = match Schema::check(&ROWS) {
         Ok(schema) => schema,
         Err(fault) => return show_refusal(rt, "schema", fault.report()),
@@ -160,7 +165,9 @@ fn run(rt: &impl Print) -> Result<(), AnyError> {
     println!(rt, "configuration")?;
     show_entries(rt, &config)?;
     change(rt, &schema, config)?;
-    refusals(rt, &schema)
+    refusals(rt, &schema)?;
+    edits::show_edits(rt, &schema, config)?;
+    devices::show_devices(rt)
 }
 
 fn main(rt: LibcRuntime) -> Result<(), AnyError> {
