@@ -41,7 +41,7 @@ fn cut_write<D: Device>(rt: &impl Print, what: &str, device: &mut D) -> Result<(
     Ok(())
 }
 
-pub fn show_devices<R: Print + Alloc<A = Global>>(rt: &R) -> Result<(), AnyError> {
+pub(crate) fn show_devices<R: Print + Alloc<A = Global>>(rt: &R) -> Result<(), AnyError> {
     let heap = rt.alloc();
     cut_write(rt, "image, power cut after 20 bytes", &mut image(heap, 20)?)?;
     cut_write(rt, "image, power cut after 34 bytes", &mut image(heap, 34)?)?;

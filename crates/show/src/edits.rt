@@ -88,7 +88,7 @@ fn show_option(
     Ok(())
 }
 
-pub fn show_edits(rt: &impl Print, schema: &Schema, config: Config) -> Result<(), AnyError> {
+pub(crate) fn show_edits(rt: &impl Print, schema: &Schema, config: Config) -> Result<(), AnyError> {
     match EditList::read(&LIST) {
         Ok(list) => {
             for number in 1..4 {

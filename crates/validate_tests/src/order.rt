@@ -26,6 +26,7 @@ use validate::Validator;
 #[derive(Clone, Copy)]
 struct Never;
 
+#[cfg(test)]
 impl Validator for Never as NeverValidator {
     ghost verdict = { λ _ _. Err (record { rule = ReferenceDangling; path = record { node = 8; k1 = 7; k2 = 6 } }) };
 
