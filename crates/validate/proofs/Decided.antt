@@ -1,11 +1,11 @@
 -- The tests of the schema rules decide whether a rule is broken at a path, and where they can pass.
 use mathlib.Core.Path.{_≡_, refl, sym, subst, ap, _∙_}
-use mathlib.Core.Bool.{Bool, true, false, not, cond, _&&_, _||_}
+use mathlib.Core.Bool.{true, false, not, _&&_}
 use mathlib.Core.Logic.{_⊎_, inl, inr, ⊎-elim}
 use mathlib.Core.List.{List, [], _∷_}
-use Prim.Native.Nat.{ℕ, zero, suc, _+_, _<_, _≤_}
+use Prim.Native.Nat.{ℕ, zero, suc, _<_, _≤_}
 use native.Mathlib.Omega.{arith}
-use lib.Dec.{eqb, ltb}
+use lib.Dec.{eqb}
 use lib.ListN.{length}
 use Rattle.std.specs.Options.{isSome, mapped}
 use Rattle.std.specs.shelf.Lists.{Has, countBy}
@@ -15,7 +15,7 @@ use Rattle.std.proofs.shelf.Tests.{and-parts, and-from, or-cases, or-left, or-r
 use Rattle.table.specs.Table.{same}
 use Rattle.table.proofs.Rows.{same-is}
 use Rattle.schema.specs.Rows.{at}
-use Rattle.schema.specs.Paths.{around, around-node}
+use Rattle.schema.specs.Paths.{around-node}
 use Rattle.schema.specs.declared.nodes.LeafNode.{LeafNode}
 use Rattle.schema.specs.declared.nodes.ListNode.{ListNode}
 use Rattle.schema.specs.declared.nodes.Node.{Node}

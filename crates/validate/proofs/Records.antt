@@ -1,25 +1,21 @@
 -- Required values: their order, and which of them is told.
 use mathlib.Core.Path.{_≡_, refl, sym, subst, ap, _∙_}
-use mathlib.Core.Bool.{Bool, true, false, _&&_, cond}
-use mathlib.Core.Logic.{⊎-elim}
+use mathlib.Core.Bool.{true, _&&_, cond}
 use mathlib.Core.List.{List, [], _∷_, _++_}
 use Prim.Native.Nat.{ℕ, zero, suc, _+_, _<_, _≤_}
 use native.Mathlib.Omega.{arith}
 use native.Mathlib.Nat.{not-suc-le-zero}
 use lib.Dec.{leb}
 use lib.ListN.{length, getD, take, drop}
-use Rattle.std.specs.shelf.Lists.{Has, inserted}
-use Rattle.std.specs.declared.result.Result.{Result}
 use Rattle.std.specs.declared.result.Result.the-variants.{Ok, Err}
 use Rattle.std.proofs.shelf.Lists.{getD-take, length-take, length-take-le, take-all, take-more, drop-all, getD-default, at-drop-more, at-drop-all}
 use Rattle.std.proofs.shelf.Tests.{and-parts, and-from, leb-true, le-leb}
-use Rattle.table.specs.Table.{Rising, Greater, Lesser, with-row}
+use Rattle.table.specs.Table.{Rising, Lesser, with-row}
 use Rattle.table.proofs.Rows.{rising-cons, rising-head, rising-tail, greater-cons, greater-far, with-new}
 use Rattle.config.specs.Order.{path-sooner}
 use Rattle.config.proofs.Order.{total}
 use Rattle.config.specs.declared.entry.Entry.{Entry}
 use Rattle.validate.specs.declared.broken.Rule.the-variants.{ValueRequired}
-use Rattle.validate.specs.declared.broken.Broken.{Broken}
 use Rattle.validate.specs.declared.bound.Bound.{Bound}
 use Rattle.validate.specs.declared.required.Required.{Required}
 use Rattle.validate.specs.Bounds.{bound-path, before-next, bounds-lawful, first-unmet, met, Listed}

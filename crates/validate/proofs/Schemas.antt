@@ -1,14 +1,13 @@
 -- The verdict of the schema rules.
-use mathlib.Core.Path.{_≡_, refl, sym, subst, ap, _∙_}
-use mathlib.Core.Bool.{Bool, true, false}
+use mathlib.Core.Path.{_≡_}
+use mathlib.Core.Bool.{true}
 use mathlib.Core.List.{List}
 use Prim.Native.Nat.{ℕ, _<_, _≤_}
 use native.Mathlib.Omega.{arith}
-use lib.ListN.{length, take}
+use lib.ListN.{length}
 use Rattle.std.specs.declared.option.Option.{Option}
 use Rattle.std.specs.declared.option.Option.the-variants.{Some, None}
 use Rattle.std.specs.declared.result.Result.{Result}
-use Rattle.std.specs.declared.result.Result.the-variants.{Ok, Err}
 use Rattle.std.proofs.shelf.Lists.{length-take-le}
 use Rattle.schema.specs.Nodes.{nodes}
 use Rattle.schema.specs.declared.nodes.Node.{Node}
@@ -21,7 +20,7 @@ use Rattle.validate.specs.declared.broken.Rule.the-variants.{MandatoryMissing,
 use Rattle.validate.specs.declared.broken.Broken.{Broken}
 use Rattle.validate.specs.Rules.{rule-number, first-no, Lowest, Told}
 use Rattle.validate.specs.Search.{lowest}
-use Rattle.validate.specs.Schemas.{Breaks, breaks, told-at, rule-verdict, schema-verdict}
+use Rattle.validate.specs.Schemas.{Breaks, breaks, told-at, schema-verdict}
 use Rattle.validate.proofs.Low.{Low, Keys-of, low-like, lowest-low}
 use Rattle.validate.proofs.Decided.{numbered, is-missing, missing-is, missing-keys, is-dangling, dangling-is, dangling-keys, is-crowded, crowded-is, crowded-keys}
 

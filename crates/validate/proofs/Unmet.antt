@@ -1,13 +1,11 @@
 -- Required values are told by rule 4.
-use mathlib.Core.Path.{_≡_, refl, sym, subst, ap, _∙_}
-use mathlib.Core.Bool.{Bool, true, false, _&&_, cond}
+use mathlib.Core.Path.{_≡_, refl, subst, ap, _∙_}
+use mathlib.Core.Bool.{true, false}
 use mathlib.Core.Logic.{⊎-elim}
 use mathlib.Core.List.{List, [], _∷_}
-use Prim.Native.Nat.{ℕ, _<_, _≤_}
+use Prim.Native.Nat.{_<_, _≤_}
 use native.Mathlib.Omega.{arith}
 use lib.Dec.{leb}
-use lib.ListN.{length, getD}
-use Rattle.std.specs.shelf.Lists.{Has}
 use Rattle.std.specs.declared.option.Option.{Option}
 use Rattle.std.specs.declared.option.Option.the-variants.{Some, None}
 use Rattle.std.specs.declared.result.Result.{Result}
@@ -25,8 +23,8 @@ use Rattle.validate.specs.declared.broken.Rule.{Rule}
 use Rattle.validate.specs.declared.broken.Rule.the-variants.{MandatoryMissing, ReferenceDangling, TooManyEntries, ValueRequired}
 use Rattle.validate.specs.declared.broken.Broken.{Broken}
 use Rattle.validate.specs.declared.bound.Bound.{Bound}
-use Rattle.validate.specs.Rules.{rule-number, Lowest, Told}
-use Rattle.validate.specs.Bounds.{bound-path, met-by, met, first-unmet, Unmet, Asks-more}
+use Rattle.validate.specs.Rules.{rule-number, Told}
+use Rattle.validate.specs.Bounds.{bound-path, met-by, met, first-unmet, Unmet, Required-breaks}
 use Rattle.validate.proofs.Lists.{has-none, has-first, has-later, has-cases}
 
 -- a record that is met has an entry with a value in its range
@@ -51,19 +49,19 @@ module _ (es : List Entry) where
       (λ h. record { bound = u .bound; asked = h; there = u .there; none = u .none })
       (has-cases b (u .bound) bs (u .asked))
 
-  earlier-rules : (b : Bound) (bs : List Bound) → met es b ≡ true → (r : Rule) (p : Path) → Asks-more (b ∷ bs) es r p → Asks-more bs es r p
+  earlier-rules : (b : Bound) (bs : List Bound) → met es b ≡ true → (r : Rule) (p : Path) → Required-breaks (b ∷ bs) es r p → Required-breaks bs es r p
   earlier-rules b bs m MandatoryMissing p u = u
   earlier-rules b bs m ReferenceDangling p u = u
   earlier-rules b bs m TooManyEntries p u = u
   earlier-rules b bs m ValueRequired p u = earlier b bs p m u
 
-  later-rules : (b : Bound) (bs : List Bound) (r : Rule) (p : Path) → Asks-more bs es r p → Asks-more (b ∷ bs) es r p
+  later-rules : (b : Bound) (bs : List Bound) (r : Rule) (p : Path) → Required-breaks bs es r p → Required-breaks (b ∷ bs) es r p
   later-rules b bs MandatoryMissing p u = u
   later-rules b bs ReferenceDangling p u = u
   later-rules b bs TooManyEntries p u = u
   later-rules b bs ValueRequired p u = later b bs p u
 
-  no-rule : (bs : List Bound) (r : Rule) (p : Path) → rule-number r < 4 → Asks-more bs es r p → ⊥
+  no-rule : (bs : List Bound) (r : Rule) (p : Path) → rule-number r < 4 → Required-breaks bs es r p → ⊥
   no-rule bs MandatoryMissing p lt u = u
   no-rule bs ReferenceDangling p lt u = u
   no-rule bs TooManyEntries p lt u = u
@@ -80,7 +78,7 @@ module _ (es : List Entry) where
       (subst (λ (x : Bound). path-sooner (b .path) (x .path) ≡ true) (h .2 b) (rising-head bound-path path-sooner total b bs up (h .0) b (omega arith) (h .1))))
       (has-cases b (u .bound) bs (u .asked)))
 
-  onward : (b : Bound) (bs : List Bound) (v : Result Unit Broken) → met es b ≡ true → Told (Asks-more bs es) v → Told (Asks-more (b ∷ bs) es) v
+  onward : (b : Bound) (bs : List Bound) (v : Result Unit Broken) → met es b ≡ true → Told (Required-breaks bs es) v → Told (Required-breaks (b ∷ bs) es) v
   onward b bs (Ok x) m t = λ r p u. t r p (earlier-rules b bs m r p u)
   onward b bs (Err x) m t =
       record {
@@ -89,16 +87,16 @@ module _ (es : List Entry) where
         lower-paths = λ p u. t .lower-paths p (earlier-rules b bs m (x .rule) p u);
       }
 
-  nothing-asked : (r : Rule) (p : Path) → Asks-more [] es r p → ⊥
+  nothing-asked : (r : Rule) (p : Path) → Required-breaks [] es r p → ⊥
   nothing-asked MandatoryMissing p u = u
   nothing-asked ReferenceDangling p u = u
   nothing-asked TooManyEntries p u = u
   nothing-asked ValueRequired p u = has-none (u .bound) (u .asked)
 
-  pub unmet-told : (bs : List Bound) → Rising bound-path path-sooner bs → Told (Asks-more bs es) (first-unmet bs es)
+  pub unmet-told : (bs : List Bound) → Rising bound-path path-sooner bs → Told (Required-breaks bs es) (first-unmet bs es)
   unmet-told [] up = nothing-asked
   unmet-told (b ∷ bs) up =
-      cond-both (met es b) _ _ (λ v. Told (Asks-more (b ∷ bs) es) v)
+      cond-both (met es b) _ _ (λ v. Told (Required-breaks (b ∷ bs) es) v)
       (λ m. onward b bs (first-unmet bs es) m (unmet-told bs (rising-tail bound-path path-sooner total b bs up)))
       (λ m. record {
         broken = record { bound = b; asked = has-first b bs; there = refl; none = unmet-none b (found es (b .path)) m };

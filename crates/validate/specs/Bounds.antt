@@ -62,8 +62,8 @@ pub record Unmet (bs : List Bound) (es : List Entry) (p : Path) : Type 0 where
   pub none : (e : Entry) → found es p ≡ Some e → bound .values .lo ≤ e .value → e .value ≤ bound .values .hi → ⊥
 
 -- required values break no rule but 4
-abbrev pub Asks-more : List Bound → List Entry → Rule → Path → Type 0
-Asks-more bs es MandatoryMissing p = ⊥
-Asks-more bs es ReferenceDangling p = ⊥
-Asks-more bs es TooManyEntries p = ⊥
-Asks-more bs es ValueRequired p = Unmet bs es p
+abbrev pub Required-breaks : List Bound → List Entry → Rule → Path → Type 0
+Required-breaks bs es MandatoryMissing p = ⊥
+Required-breaks bs es ReferenceDangling p = ⊥
+Required-breaks bs es TooManyEntries p = ⊥
+Required-breaks bs es ValueRequired p = Unmet bs es p

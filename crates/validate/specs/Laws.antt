@@ -10,7 +10,7 @@ use Rattle.validate.specs.declared.broken.Rule.{Rule}
 use Rattle.validate.specs.declared.broken.Broken.{Broken}
 use Rattle.validate.specs.declared.required.Required.{Required}
 use Rattle.validate.specs.Rules.{Told}
-use Rattle.validate.specs.Bounds.{Asks-more, first-unmet}
+use Rattle.validate.specs.Bounds.{Required-breaks, first-unmet}
 use Rattle.validate.specs.Required.{bounds}
 use Rattle.validate.specs.Schemas.{Breaks, schema-verdict}
 
@@ -23,4 +23,4 @@ abbrev pub Schema-told : Type 0
 Schema-told = (s : Schema) (es : List Entry) → Only (Breaks (nodes s) es) (schema-verdict (nodes s) es)
 
 abbrev pub Required-told : Type 0
-Required-told = (s : Required) (es : List Entry) → Only (Asks-more (bounds s) es) (first-unmet (bounds s) es)
+Required-told = (s : Required) (es : List Entry) → Only (Required-breaks (bounds s) es) (first-unmet (bounds s) es)

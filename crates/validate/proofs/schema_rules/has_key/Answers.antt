@@ -1,5 +1,5 @@
 use mathlib.Core.Path.{sym, ap, _∙_}
-use Rattle.std.proofs.shelf.Tests.{and-from, and-left, and-right, eq-eqb, ne-eqb, or-left, or-from}
+use Rattle.std.proofs.shelf.Tests.{and-from, and-left, and-right, eq-eqb, ne-eqb, or-left}
 use mathlib.Core.Bool.{_||_}
 use Prim.Native.Nat.{_+_}
 use lib.ListN.{drop}
