@@ -1,8 +1,8 @@
 -- Images as counted lists of entries.
 use Rattle.std.proofs.Common.{◌≡◌, ℕ, ◌+◌, ◌-◌, ◌*◌, ◌<◌, ◌≤◌, Bool, true, false, ◌&&◌, List, [], ◌∷◌, length, get_or, drop, sym, refl, ap, ◌∙◌, arith}
 use Rattle.std.proofs.lemmas.List.{drop_more}
-use Rattle.bytes.specs.declared.form.Form.{Form}
-use Rattle.bytes.proofs.Lists.{counted_same, length_counted}
+use Rattle.encoding.specs.declared.form.Form.{Form}
+use Rattle.encoding.proofs.Lists.{counted_same, length_counted}
 use Rattle.schema.specs.declared.path.Path.{Path}
 use Rattle.config.specs.declared.entry.Entry.{Entry}
 use Rattle.config.specs.Order.{entry_form, path_sooner, rising}

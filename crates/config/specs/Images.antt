@@ -1,6 +1,6 @@
 -- The image of a configuration: a count byte, then 16 bytes for each entry.
 use Rattle.std.specs.Prelude.{◌≡◌, ℕ, ◌<◌, ◌≤◌, true, List, ◌++◌, length, drop, Some, None, Ok, Err, Option, Result, ◌≢◌}
-use Rattle.bytes.specs.Counts.{counted}
+use Rattle.encoding.specs.Counts.{counted}
 use Rattle.schema.specs.declared.nodes.Node.{Node}
 use Rattle.config.specs.declared.entry.Entry.{Entry}
 use Rattle.config.specs.declared.config.Config.{Config}

@@ -2,7 +2,7 @@
 use Rattle.std.specs.Prelude.{ℕ, Bool, true, not, ◌&&◌, List, [], ◌∷◌}
 use Rattle.table.specs.Dictionary.{sooner}
 use Rattle.schema.specs.declared.path.Path.{Path}
-use Rattle.bytes.specs.declared.form.Form.{Form}
+use Rattle.encoding.specs.declared.form.Form.{Form}
 use Rattle.config.specs.declared.entry.Entry.{Entry}
 
 -- a path by its numbers

@@ -5,7 +5,7 @@ ghost use Rattle.fault.specs.Text.{spaced};
 ghost use Rattle.std.specs.Cmp.Rules.{comparing};
 ghost use Rattle.std.proofs.Common.{rules};
 
-use bytes::{Coded, Form};
+use encoding::{Coded, Form};
 use schema::Path;
 use std::fmt;
 use table::Record;

@@ -41,7 +41,7 @@ impl Config {
         if out.len() < 769 {
             return Err(ShortOutput);
         }
-        match bytes::encode(self.entries(), out) {
+        match encoding::encode(self.entries(), out) {
             Ok(length) => Ok(length),
             Err(_) => Err(ShortOutput),
         }
@@ -52,7 +52,7 @@ impl Config {
         ensures { Decoded image.now result }
     {
         let mut entries = [UNUSED; 48];
-        let count = bytes::decode(image, &mut entries)?;
+        let count = encoding::decode(image, &mut entries)?;
         if !rise(&entries[0..count]) {
             return None;
         }

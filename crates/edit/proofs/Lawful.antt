@@ -1,8 +1,8 @@
 -- The laws of edits.
 use Rattle.std.proofs.Common.{◌≡◌, ℕ, ◌≤◌, Bool, true, false, cond, List, [], ◌∷◌, length, is_some, Ok, Err, Result, sym, refl, ap, ◌∙◌, subst, ⊎_elim, arith}
 use Rattle.std.proofs.lemmas.Bool.{cases_Bool, cond_both}
-use Rattle.bytes.specs.declared.form.Form.{Form}
-use Rattle.bytes.proofs.Lists.{counted_same}
+use Rattle.encoding.specs.declared.form.Form.{Form}
+use Rattle.encoding.proofs.Lists.{counted_same}
 use Rattle.table.proofs.Rows.{rising_kept, rising_with}
 use Rattle.schema.specs.Depth.{two_deep}
 use Rattle.schema.specs.Nodes.{nodes}

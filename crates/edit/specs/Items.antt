@@ -1,6 +1,6 @@
 -- Items and their form in bytes.
 use Rattle.std.specs.Prelude.{ℕ}
-use Rattle.bytes.specs.declared.form.Form.{Form}
+use Rattle.encoding.specs.declared.form.Form.{Form}
 use Rattle.edit.specs.declared.item.Item.{Item}
 use Rattle.edit.specs.declared.item.Operation.{Operation}
 use Rattle.edit.specs.declared.item.Operation.TheVariants.{Merge, Replace, Create, Delete, Remove}

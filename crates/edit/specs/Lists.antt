@@ -1,6 +1,6 @@
 -- Edit lists: a count byte, then 16 bytes for each item.
 use Rattle.std.specs.Prelude.{◌≡◌, ℕ, ◌≤◌, List, length, take, Ok, Err, Result, ◌≢◌}
-use Rattle.bytes.specs.Counts.{counted}
+use Rattle.encoding.specs.Counts.{counted}
 use Rattle.edit.specs.declared.held.EditList.{EditList}
 use Rattle.edit.specs.declared.item.Item.{Item}
 use Rattle.edit.specs.Items.{item_form}

@@ -5,7 +5,7 @@ ghost use Rattle.fault.specs.Codes.{StandsFor};
 ghost use Rattle.std.specs.Prelude.{◌≡◌};
 ghost use Rattle.std.proofs.Common.{rules};
 
-use bytes::{Coded, Form};
+use encoding::{Coded, Form};
 use schema::Path;
 
 // What an item does to its target.

@@ -1,13 +1,13 @@
 // Edit lists.
 ghost use Rattle.std.specs.Prelude.{◌≡◌, ◌≤◌, length};
-ghost use Rattle.bytes.specs.Counts.{Encoded};
+ghost use Rattle.encoding.specs.Counts.{Encoded};
 ghost use Rattle.edit.specs.Items.{item_form};
 ghost use Rattle.edit.specs.Lists.{ListRead, items};
 ghost use Rattle.fault.specs.Reports.{plain};
 
 use crate::held::EditList;
 use crate::item::Item;
-use bytes::NoRoom;
+use encoding::NoRoom;
 use fault::Report;
 use schema::Path;
 
@@ -31,7 +31,7 @@ impl EditList {
         ensures { ListRead form.now result }
     {
         let mut items = [UNUSED; 16];
-        match bytes::decode(form, &mut items) {
+        match encoding::decode(form, &mut items) {
             Some(count) => Ok(EditList { items, count }),
             None => Err(ListFault),
         }
@@ -48,7 +48,7 @@ impl EditList {
     pub fn encode(&self, out: &mut [u8]) -> Result<usize, NoRoom>
         ensures { Encoded item_form (items self.now) out.old out.new result }
     {
-        bytes::encode(self.items(), out)
+        encoding::encode(self.items(), out)
     }
 }
 

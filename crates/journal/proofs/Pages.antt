@@ -3,7 +3,7 @@ use Rattle.std.proofs.Common.{◌≡◌, ℕ, zero, suc, ◌+◌, ◌-◌, ◌*�
 use lib.ListN.{length-replicate, replicate-append-replicate}
 use Rattle.std.specs.List.{flat_map}
 use Rattle.std.proofs.lemmas.List.{append_assoc, take_at, drop_at, drop-drop}
-use Rattle.bytes.specs.Counts.{counted}
+use Rattle.encoding.specs.Counts.{counted}
 use Rattle.schema.specs.declared.nodes.Node.{Node}
 use Rattle.config.specs.declared.entry.Entry.{Entry}
 use Rattle.config.specs.Images.{image}

@@ -1,7 +1,7 @@
 -- How a configuration lies in the home blocks 26 to 50, and how the journal header in block 0 names home blocks.
 use Rattle.std.specs.Prelude.{ℕ, zero, suc, ◌+◌, ◌-◌, Bool, true, cond, ◌&&◌, List, [], ◌∷◌, ◌++◌, length, take, drop, replicate, Some, None, Option, nat_le, nat_lt, slice_index}
 use Rattle.std.specs.Str.{bytes_eq}
-use Rattle.bytes.specs.Counts.{record_bytes}
+use Rattle.encoding.specs.Counts.{record_bytes}
 use Rattle.config.specs.Order.{entry_form}
 use Rattle.config.specs.declared.entry.Entry.{Entry}
 

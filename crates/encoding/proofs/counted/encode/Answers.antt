@@ -1,10 +1,10 @@
 use Rattle.std.proofs.Common.{◌≡◌, ◌+◌, ◌*◌, ◌<◌, ◌≤◌, ◌++◌, length, get_or, drop, set, sym, refl, ap, ◌∙◌, subst, arith}
 use Rattle.std.proofs.lemmas.List.{drop-set-lt, take_more_set, length-set}
-use Rattle.bytes.specs.Counts.{counted, record_bytes}
-use Rattle.bytes.specs.Forms.{form_bytes}
-use Rattle.bytes.proofs.Lists.{Written, written_more, written_all, length_counted}
-use Rattle.bytes.proofs.counted.encode.Goals as goal
-use Rattle.bytes.proofs.counted.encode.Goals.{then-count-gt255-via-then-count-gt255, then-count-gt255-via-else-count-gt255+then-out-count}
+use Rattle.encoding.specs.Counts.{counted, record_bytes}
+use Rattle.encoding.specs.Forms.{form_bytes}
+use Rattle.encoding.proofs.Lists.{Written, written_more, written_all, length_counted}
+use Rattle.encoding.proofs.counted.encode.Goals as goal
+use Rattle.encoding.proofs.counted.encode.Goals.{then-count-gt255-via-then-count-gt255, then-count-gt255-via-else-count-gt255+then-out-count}
 
 pub returns-then-count-gt255 : goal.returns-then-count-gt255
 returns-then-count-gt255 g c =

@@ -1,8 +1,8 @@
 -- Numbers and forms, from their bytes.
 use Rattle.std.proofs.Common.{◌≡◌, ℕ, ◌+◌, ◌*◌, ◌/◌, ◌%◌, ◌<◌, ◌≤◌, List, [], ◌∷◌, ◌++◌, length, get_or, take, drop, sym, refl, ap, ◌∙◌, arith}
 use Rattle.std.proofs.lemmas.List.{drop_more, take_all, take-append-drop, drop-drop, length-drop}
-use Rattle.bytes.specs.declared.form.Form.{Form}
-use Rattle.bytes.specs.Forms.{word, form_bytes}
+use Rattle.encoding.specs.declared.form.Form.{Form}
+use Rattle.encoding.specs.Forms.{word, form_bytes}
 
 pub word_of : (a b c d n : ℕ) → a < 256 → b < 256 → c < 256 → d < 256 → n ≡ a * 16777216 + b * 65536 + c * 256 + d → word n ≡ a ∷ b ∷ c ∷ d ∷ []
 word_of a b c d n ha hb hc hd e =

@@ -1,7 +1,7 @@
 use Rattle.std.proofs.Common.{◌≡◌, ◌<◌, refl, arith, below_more}
 use Rattle.std.proofs.lemmas.Bool.{false≢true}
-use Rattle.bytes.specs.Counts.{record_bytes, slot_bytes}
-use Rattle.bytes.proofs.counted.all_known.Goals as goal
+use Rattle.encoding.specs.Counts.{record_bytes, slot_bytes}
+use Rattle.encoding.proofs.counted.all_known.Goals as goal
 
 pub returns-in-default : goal.returns-in-default
 returns-in-default g c =

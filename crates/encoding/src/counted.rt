@@ -1,6 +1,6 @@
 // Counted lists of records.
-ghost use Rattle.bytes.specs.Counts.{CountRead, Decoded, Encoded, OfForm, SlotRead, SlotsKnown};
-ghost use Rattle.bytes.specs.declared.form.Form.{Form};
+ghost use Rattle.encoding.specs.Counts.{CountRead, Decoded, Encoded, OfForm, SlotRead, SlotsKnown};
+ghost use Rattle.encoding.specs.declared.form.Form.{Form};
 ghost use Rattle.std.specs.Prelude.{◌≡◌, ◌+◌, ◌*◌, ◌<◌, ◌≤◌, length, MatchOption};
 
 use crate::form::Form;

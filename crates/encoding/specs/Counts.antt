@@ -1,8 +1,8 @@
 -- Counted lists: a count byte, then the form of each record. `form` gives a record's form.
 use Rattle.std.specs.Prelude.{◌≡◌, ℕ, ◌+◌, ◌*◌, ◌<◌, ◌≤◌, Bool, List, ◌∷◌, ◌++◌, length, take, drop, Some, None, Ok, Err, Decides, Option, Result, ◌≢◌, slice_index}
 use Rattle.std.specs.List.{flat_map}
-use Rattle.bytes.specs.declared.form.Form.{Form}
-use Rattle.bytes.specs.Forms.{form_bytes}
+use Rattle.encoding.specs.declared.form.Form.{Form}
+use Rattle.encoding.specs.Forms.{form_bytes}
 
 -- the i-th form after the count byte
 abbrev pub slot_bytes : List ℕ → ℕ → List ℕ

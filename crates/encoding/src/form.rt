@@ -1,6 +1,6 @@
 // A form of 16 bytes.
 ghost use Rattle.std.specs.Prelude.{◌≡◌, ◌+◌, ◌≤◌, length, take, drop};
-ghost use Rattle.bytes.specs.Forms.{FormRead, form_bytes, word};
+ghost use Rattle.encoding.specs.Forms.{FormRead, form_bytes, word};
 
 // Four head bytes, then two keys and a value.
 #[derive(Clone, Copy)]

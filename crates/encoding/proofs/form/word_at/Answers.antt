@@ -1,6 +1,6 @@
 use Rattle.std.proofs.Common.{◌+◌, get_or, sym, ◌∙◌}
-use Rattle.bytes.proofs.Words.{four, word_of}
-use Rattle.bytes.proofs.form.word_at.Goals as goal
+use Rattle.encoding.proofs.Words.{four, word_of}
+use Rattle.encoding.proofs.form.word_at.Goals as goal
 
 pub returns : goal.returns
 returns c =

@@ -1,8 +1,8 @@
 -- The counted list of the records so far is written, and the bytes past it are as they were.
 use Rattle.std.proofs.Common.{◌≡◌, ◌+◌, ◌*◌, ◌∷◌, take, drop}
 use Rattle.std.specs.List.{flat_map}
-use Rattle.bytes.specs.Counts.{record_bytes}
-use Rattle.bytes.proofs.counted.encode.Given as goal
+use Rattle.encoding.specs.Counts.{record_bytes}
+use Rattle.encoding.proofs.counted.encode.Given as goal
 
 abbrev pub invariant-loop-i : goal.invariant-loop-i
 invariant-loop-i g l =

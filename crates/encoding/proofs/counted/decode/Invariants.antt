@@ -1,8 +1,8 @@
 -- The bytes so far are those of the records so far, and the slots past them are as they were.
 use Rattle.std.proofs.Common.{◌≡◌, ◌+◌, ◌*◌, ◌∷◌, take, drop}
 use Rattle.std.specs.List.{flat_map}
-use Rattle.bytes.specs.Counts.{record_bytes}
-use Rattle.bytes.proofs.counted.decode.Given as goal
+use Rattle.encoding.specs.Counts.{record_bytes}
+use Rattle.encoding.proofs.counted.decode.Given as goal
 
 abbrev pub invariant-loop-i : goal.invariant-loop-i
 invariant-loop-i g l =

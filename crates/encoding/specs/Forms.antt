@@ -1,6 +1,6 @@
 -- A form of 16 bytes.
 use Rattle.std.specs.Prelude.{◌≡◌, ℕ, ◌/◌, ◌%◌, List, [], ◌∷◌, ◌++◌, length, Some, None, Option}
-use Rattle.bytes.specs.declared.form.Form.{Form}
+use Rattle.encoding.specs.declared.form.Form.{Form}
 
 -- the four bytes of a 32-bit number, the most significant first
 abbrev pub word : ℕ → List ℕ

@@ -1,5 +1,5 @@
-use Rattle.bytes.proofs.Words.{form_from}
-use Rattle.bytes.proofs.form.Form.from_bytes.Goals as goal
+use Rattle.encoding.proofs.Words.{form_from}
+use Rattle.encoding.proofs.form.Form.from_bytes.Goals as goal
 
 pub returns : goal.returns
 returns c =

@@ -4,10 +4,10 @@ use borrow.Rule.Slice.PartMut.{put_mid}
 use Rattle.std.specs.List.{flat_map}
 use Rattle.std.proofs.lemmas.List.{append_assoc, take-append-drop, take_at, drop_at, drop_more, drop-drop, drop-set-lt, take_more, take_more_set, take_all, flat_map_more, length-take-le, length-append}
 use Rattle.std.proofs.lemmas.Slice.{take-put_mid, drop-put_mid}
-use Rattle.bytes.specs.declared.form.Form.{Form}
-use Rattle.bytes.specs.Forms.{form_bytes}
-use Rattle.bytes.specs.Counts.{slot_bytes, record_bytes, counted}
-use Rattle.bytes.proofs.Words.{form_same}
+use Rattle.encoding.specs.declared.form.Form.{Form}
+use Rattle.encoding.specs.Forms.{form_bytes}
+use Rattle.encoding.specs.Counts.{slot_bytes, record_bytes, counted}
+use Rattle.encoding.proofs.Words.{form_same}
 
 module _ {X : Type 0} (form : X → Form) where
   pub length_joined : (xs : List X) → length (flat_map (record_bytes form) xs) ≡ 16 * length xs
