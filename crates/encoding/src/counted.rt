@@ -26,7 +26,7 @@ pub struct NoRoom;
 
 // Writes the counted list of the records to the front of the output, and answers its length.
 pub fn encode<T: Coded>(records: &[T], out: &mut [u8]) -> Result<usize, NoRoom>
-    ensures { Encoded form records.now out.old out.new result }
+    ensures { Encoded T.form records.now out.old out.new result }
 {
     let count = records.len();
     if count > 255 || out.len() < 1 + 16 * count {
@@ -57,7 +57,7 @@ fn count_of(bytes: &[u8], most: usize) -> Option<usize>
 // The record of the i-th form after the count byte, if it is a record's.
 fn slot<T: Coded>(bytes: &[u8], i: usize) -> Option<T>
     requires { 1 + 16 * i + 16 ≤ length bytes.now }
-    ensures { SlotRead form bytes.now i result }
+    ensures { SlotRead T.form bytes.now i result }
 {
     let at = 1 + 16 * i;
     let of = Form::from_bytes(&bytes[at..at + 16])?;
@@ -67,7 +67,7 @@ fn slot<T: Coded>(bytes: &[u8], i: usize) -> Option<T>
 // Each of the forms after the count byte is a record's.
 fn all_known<T: Coded>(bytes: &[u8], count: usize) -> bool
     requires { length bytes.now ≡ 1 + 16 * count }
-    ensures { SlotsKnown form bytes.now count result }
+    ensures { SlotsKnown T.form bytes.now count result }
 {
     for i in 0..count {
         let Some(_) = slot::<T>(bytes, i) else {
@@ -80,7 +80,7 @@ fn all_known<T: Coded>(bytes: &[u8], count: usize) -> bool
 // Reads a counted list into the front of the slots, and answers the count. Where the bytes are no counted list of as many
 // records as there are slots at most, nothing is written.
 pub fn decode<T: Coded>(bytes: &[u8], slots: &mut [T]) -> Option<usize>
-    ensures { Decoded form bytes.now slots.old slots.new result }
+    ensures { Decoded T.form bytes.now slots.old slots.new result }
 {
     let count = count_of(bytes, slots.len())?;
     if !all_known::<T>(bytes, count) {

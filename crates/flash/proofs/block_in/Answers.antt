@@ -13,4 +13,4 @@ returns-then-part-ne-WRITTEN c =
 pub returns : goal.returns
 returns c =
     let part : List ℕ = c.args.part.now in
-    ap Good (c.copy-from-slice.ensures.after ∙ sym (take-take 32 33 part (omega arith))) ∙ sym (content_good (take 33 part) (get_or-take 33 part 32 0 (omega arith) ∙ c.if-part-ne-WRITTEN.false))
+    ap Good (c.copy_from_slice.ensures.after ∙ sym (take-take 32 33 part (omega arith))) ∙ sym (content_good (take 33 part) (get_or-take 33 part 32 0 (omega arith) ∙ c.if-part-ne-WRITTEN.false))

@@ -6,4 +6,4 @@ use Rattle.flash.proofs.write_block.Goals as goal
 pub returns : goal.returns
 returns c =
     let size : length c.args.payload ≡ 32 = search rules in
-    exact_here c.args.bytes.now c.args.at c.args.payload size c.requires.room c.args.supply.now c.write-cell.result c.write-cell.new.part c.write-cell.new.supply c.write-cell.ensures
+    exact_here c.args.bytes.now c.args.at c.args.payload size c.requires.room c.args.supply.now c.write_cell.result c.write_cell.new.part c.write_cell.new.supply c.write_cell.ensures

@@ -5,4 +5,4 @@ use Rattle.image.specs.Cell.{content}
 use Rattle.image.proofs.read_block.Goals as goal
 
 pub returns : goal.returns
-returns c = block_at 34 content c.args.bytes.now c.args.at c.block-in.result (omega arith) c.block-in.ensures
+returns c = block_at 34 content c.args.bytes.now c.args.at c.block_in.result (omega arith) c.block_in.ensures

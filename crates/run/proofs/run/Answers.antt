@@ -7,8 +7,8 @@ pub returns : goal.returns
 returns g c =
     let d = g.met.D.Device in
     let dev = g.D.Device in
-    let format = c.in-ok-format.ensures in
-    let all = c.perform-all.ensures in
+    let format = c.in_ok-format.ensures in
+    let all = c.perform_all.ensures in
     let b = begun dev.blocks dev.powered dev.raises dev.reads dev.writes g.V.Validator.verdict d.raised d.reading d.writing d.unread d.unwritten c.args.engine.now c.args.image.now c.format.new.self format in
     record {
       formatted = c.format.new.self;
@@ -23,5 +23,5 @@ returns g c =
       rest = all.rest;
       validator_stays = all.validator ∙ format.validator;
       schema_stays = all.schema ∙ format.schema;
-      promise = promise_of dev.blocks dev.powered dev.raises dev.reads dev.writes g.V.Validator.verdict d.raised d.reading d.writing d.unread d.unwritten c.args.engine.now.validator b.schema b.entries c.format.new.self (take c.perform-all.result c.args.calls.now) (take c.perform-all.result c.perform-all.new.answers) c.perform-all.new.engine format.validator (all.chain b.schema (fresh b.entries) (format.schema ∙ b.schema_is) b.tied);
+      promise = promise_of dev.blocks dev.powered dev.raises dev.reads dev.writes g.V.Validator.verdict d.raised d.reading d.writing d.unread d.unwritten c.args.engine.now.validator b.schema b.entries c.format.new.self (take c.perform_all.result c.args.calls.now) (take c.perform_all.result c.perform_all.new.answers) c.perform_all.new.engine format.validator (all.chain b.schema (fresh b.entries) (format.schema ∙ b.schema_is) b.tied);
     }

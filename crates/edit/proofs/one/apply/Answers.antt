@@ -7,12 +7,12 @@ use Rattle.edit.proofs.Changed.{changed_else, changed_puts, performed, room}
 use Rattle.edit.proofs.Judged.{has_room, judged_passes}
 use Rattle.edit.proofs.one.apply.Goals as goal
 
-pub put-in-requires : goal.put-in-requires
-put-in-requires c =
+pub put_in-requires : goal.put_in-requires
+put_in-requires c =
     let schema = c.args.schema.now in
     let config = c.args.config.now in
     let i = c.args.item in
-    let x = c.in-ok-operation in
+    let x = c.in_ok-operation in
     let h = sym c.if-puts.ensures in
     let p = judged_passes (nodes schema) (used config) i x.operation x.node (sym x.ensures) in
     let few : length (used config) ≤ 48 = omega (arith, used_length config, config.few) in
@@ -24,11 +24,11 @@ returns-then-puts c =
     let schema = c.args.schema.now in
     let config = c.args.config.now in
     let i = c.args.item in
-    let x = c.in-ok-operation in
-    let here : c.is-some-here.result ≡ present (used config) i.path = c.is-some-here.ensures ∙ ap is_some c.get.ensures in
+    let x = c.in_ok-operation in
+    let here : c.is_some-here.result ≡ present (used config) i.path = c.is_some-here.ensures ∙ ap is_some c.get.ensures in
     performed (nodes schema) schema.nested (used config) x.operation x.node i _ (sym x.ensures)
-    (c.put-in.ensures
-    ∙ ap (λ l. put_in l x.node i c.is-some-here.result) c.retain.ensures.entries-are
+    (c.put_in.ensures
+    ∙ ap (λ l. put_in l x.node i c.is_some-here.result) c.retain.ensures.entries-are
     ∙ ap (λ b. put_in (cleared (nodes schema) (used config) x.operation i.path) x.node i b) here
     ∙ changed_puts (nodes schema) (used config) x.operation x.node i (sym c.if-puts.ensures))
 
@@ -36,6 +36,6 @@ pub returns-else-puts : goal.returns-else-puts
 returns-else-puts c =
     let schema = c.args.schema.now in
     let config = c.args.config.now in
-    let x = c.in-ok-operation in
+    let x = c.in_ok-operation in
     performed (nodes schema) schema.nested (used config) x.operation x.node c.args.item _ (sym x.ensures)
     (c.retain.ensures.entries-are ∙ changed_else (nodes schema) (used config) x.operation x.node c.args.item (sym c.if-puts.ensures))

@@ -10,16 +10,16 @@ use Rattle.edit.proofs.Edited.{all_performed, one_refused}
 use Rattle.edit.proofs.Steps.{refused_range}
 use Rattle.edit.proofs.run.edit.Goals as goal
 
-pub returns-in-default : goal.returns-in-default
-returns-in-default c =
+pub returns-in_default : goal.returns-in_default
+returns-in_default c =
     let ns = nodes c.args.schema.now in
     let es = used c.args.config.now in
-    let h = c.in-default.ensures in
-    all_performed ns c.args.option c.args.config.now c.perform-until.new.config (items c.args.list.now)
+    let h = c.in_default.ensures in
+    all_performed ns c.args.option c.args.config.now c.perform_until.new.config (items c.args.list.now)
     (h.left ∙ ap (until (does ns) es) c.items.ensures) (h.refused ∙ ap (first_refused (does ns) es) c.items.ensures)
 
-pub overflow-sub-path : goal.overflow-sub-path
-overflow-sub-path c = (refused_range (does (nodes c.args.schema.now)) 0 (used c.args.config.now) c.items.result.now c.in-Some.item c.in-Some.fault (sym c.in-Some.ensures.refused)).0
+pub overflow_sub-path : goal.overflow_sub-path
+overflow_sub-path c = (refused_range (does (nodes c.args.schema.now)) 0 (used c.args.config.now) c.items.result.now c.in-Some.item c.in-Some.fault (sym c.in-Some.ensures.refused)).0
 
 pub bounds-items-item : goal.bounds-items-item
 bounds-items-item c =

@@ -29,7 +29,7 @@ loop-i-preserved c =
     let i = c.loop-i.i in
     let list = c.args.list.now in
     let lt = c.loop-i-test.true in
-    let e = does_ok ns es _ (used c.apply.new.config) c.in-default.ensures in (
+    let e = does_ok ns es _ (used c.apply.new.config) c.in_default.ensures in (
       sym (until_ok (does ns) es _ (drop (i + 1) list) (used c.apply.new.config) e) ∙ sym (at_drop_more (until (does ns) es) list i _ lt) ∙ c.loop-i.invariant.0,
       sym (refused_ok (does ns) es _ (drop (i + 1) list) i (used c.apply.new.config) e) ∙ sym (at_drop_more (refused_after (does ns) i es) list i _ lt) ∙ c.loop-i.invariant.1,
     )

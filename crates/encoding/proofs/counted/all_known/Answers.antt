@@ -3,9 +3,9 @@ use Rattle.std.proofs.lemmas.Bool.{false≢true}
 use Rattle.encoding.specs.Counts.{record_bytes, slot_bytes}
 use Rattle.encoding.proofs.counted.all_known.Goals as goal
 
-pub returns-in-default : goal.returns-in-default
-returns-in-default g c =
-    (λ e. absurd (false≢true e), λ all. let one = all c.loop-i.i c.loop-i-test.true in absurd (c.in-default.ensures one.0 one.1))
+pub returns-in_default : goal.returns-in_default
+returns-in_default g c =
+    (λ e. absurd (false≢true e), λ all. let one = all c.loop-i.i c.loop-i-test.true in absurd (c.in_default.ensures one.0 one.1))
 
 pub loop-i-preserved : goal.loop-i-preserved
 loop-i-preserved g c =

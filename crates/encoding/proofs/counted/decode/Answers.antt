@@ -3,24 +3,24 @@ use Rattle.std.proofs.lemmas.Bool.{false≢true}
 use Rattle.encoding.specs.Counts.{Decoded, counted, record_bytes, slot_bytes}
 use Rattle.encoding.proofs.Lists.{Filled, counted_first, filled_all, filled_more, length_counted, slot_known}
 use Rattle.encoding.proofs.counted.decode.Goals as goal
-use Rattle.encoding.proofs.counted.decode.Goals.{in-Some, in-default}
+use Rattle.encoding.proofs.counted.decode.Goals.{in-Some, in_default}
 
-pub returns-in-err-count : goal.returns-in-err-count
-returns-in-err-count g c =
+pub returns-in_err-count : goal.returns-in_err-count
+returns-in_err-count g c =
     let form = g.T.Coded.form in
     let bytes = c.args.bytes.now in
-    subst (λ r. Decoded form bytes c.args.slots.now c.args.slots.now r) (sym c.from-residual.ensures) (
-      λ xs few is. c.in-err-count.ensures (length xs) few (ap length is ∙ length_counted form xs) (counted_first form bytes xs is),
+    subst (λ r. Decoded form bytes c.args.slots.now c.args.slots.now r) (sym c.from_residual.ensures) (
+      λ xs few is. c.in_err-count.ensures (length xs) few (ap length is ∙ length_counted form xs) (counted_first form bytes xs is),
       refl,
     )
 
-pub returns-then-not-all-known : goal.returns-then-not-all-known
-returns-then-not-all-known g c =
+pub returns-then-not-all_known : goal.returns-then-not-all_known
+returns-then-not-all_known g c =
     let form = g.T.Coded.form in
     let bytes = c.args.bytes.now in (
       λ xs few is.
-          let many : length xs ≡ c.in-ok-count.count = sym (counted_first form bytes xs is) ∙ c.in-ok-count.ensures.2 in
-          false≢true (c.if-not-all-known.ensures.1 (λ i lt.
+          let many : length xs ≡ c.in_ok-count.count = sym (counted_first form bytes xs is) ∙ c.in_ok-count.ensures.2 in
+          false≢true (c.if-not-all_known.ensures.1 (λ i lt.
           let within : i < length xs = omega arith in
           let one = slot_known form xs i within in
           (one.0, ap (λ b. slot_bytes b i) is ∙ one.1))),
@@ -32,23 +32,23 @@ loop-i-preserved g c =
     let form = g.T.Coded.form in
     let bytes = c.args.bytes.now in
     let i = c.loop-i.i in
-    let count = c.in-ok-count.count in
+    let count = c.in_ok-count.count in
     elim c.match-slot.branch [
       | in-Some w ↦
-          let room : i < length c.loop-i.slots = omega (arith, c.loop-i.auto.slots, c.in-ok-count.ensures.0, c.loop-i-test.true) in
+          let room : i < length c.loop-i.slots = omega (arith, c.loop-i.auto.slots, c.in_ok-count.ensures.0, c.loop-i-test.true) in
           subst (λ l. Filled form bytes count (i + 1) c.args.slots.now l) (sym w.slots-is)
           (filled_more form bytes count i c.args.slots.now c.loop-i.slots w.in-Some.record room w.in-Some.ensures c.loop-i.invariant)
-      | in-default w ↦
-          let one = c.all-known.ensures.0 c.if-not-all-known.false i c.loop-i-test.true in
-          absurd (w.in-default.ensures one.0 one.1)
+      | in_default w ↦
+          let one = c.all_known.ensures.0 c.if-not-all_known.false i c.loop-i-test.true in
+          absurd (w.in_default.ensures one.0 one.1)
     ]
 
 pub returns : goal.returns
 returns g c =
     let form = g.T.Coded.form in
     let bytes = c.args.bytes.now in
-    let count = c.in-ok-count.count in
-    let n = c.in-ok-count.ensures in
+    let count = c.in_ok-count.count in
+    let n = c.in_ok-count.ensures in
     let done : c.loop-i.i ≡ count = omega (arith, c.loop-i-test.false, c.loop-i.auto.i-end) in
     let f : Filled form bytes count count c.args.slots.now c.loop-i.slots =
     subst (λ k. Filled form bytes count k c.args.slots.now c.loop-i.slots) done c.loop-i.invariant in (

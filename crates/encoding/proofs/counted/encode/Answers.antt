@@ -22,9 +22,9 @@ loop-i-preserved g c =
     let xs = c.args.records.now in
     let long : length c.loop-i.out ≡ length c.args.out.now = c.loop-i.auto.out ∙ length-set c.args.out.now 0 (length xs) in
     let room : 1 + 16 * c.loop-i.i + 16 ≤ length c.loop-i.out = omega (arith, c.if-out-count.false, c.loop-i-test.true) in
-    let is : c.copy-from-slice.new.self ≡ record_bytes form (get_or xs c.loop-i.i c.index-records-i.result) =
-    c.copy-from-slice.ensures.after ∙ c.to-bytes.ensures ∙ ap form_bytes (c.to-form.ensures ∙ ap form c.index-records-i.is) in
-    written_more form (length xs) xs c.loop-i.i c.index-records-i.result _ c.loop-i.out c.copy-from-slice.new.self c.loop-i-test.true room is c.loop-i.invariant
+    let is : c.copy_from_slice.new.self ≡ record_bytes form (get_or xs c.loop-i.i c.index-records-i.result) =
+    c.copy_from_slice.ensures.after ∙ c.to_bytes.ensures ∙ ap form_bytes (c.to_form.ensures ∙ ap form c.index-records-i.is) in
+    written_more form (length xs) xs c.loop-i.i c.index-records-i.result _ c.loop-i.out c.copy_from_slice.new.self c.loop-i-test.true room is c.loop-i.invariant
 
 pub returns : goal.returns
 returns g c =

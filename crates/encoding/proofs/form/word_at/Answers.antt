@@ -6,5 +6,5 @@ pub returns : goal.returns
 returns c =
     let bs = c.args.bytes.now in
     let at = c.args.at in
-    word_of (get_or bs at 0) (get_or bs (at + 1) 0) (get_or bs (at + 2) 0) (get_or bs (at + 3) 0) c.from-be-bytes.result (c.type-inv.bytes at).fits (c.type-inv.bytes (at + 1)).fits (c.type-inv.bytes (at + 2)).fits (c.type-inv.bytes (at + 3)).fits c.from-be-bytes.ensures
+    word_of (get_or bs at 0) (get_or bs (at + 1) 0) (get_or bs (at + 2) 0) (get_or bs (at + 3) 0) c.from_be_bytes.result (c.type_inv.bytes at).fits (c.type_inv.bytes (at + 1)).fits (c.type_inv.bytes (at + 2)).fits (c.type_inv.bytes (at + 3)).fits c.from_be_bytes.ensures
     ∙ sym (four bs at c.requires)

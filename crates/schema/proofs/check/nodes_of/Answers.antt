@@ -10,10 +10,10 @@ loop-i-preserved c =
     let nodes = c.loop-i.nodes in
     let i = c.loop-i.i in
     let inside : i < length nodes = omega (arith, c.requires.counted.not-many) in
-    (length-set nodes i _ ∙ c.loop-i.invariant.0, filled_more node_of c.args.rows.now nodes i c.loop-i.invariant.1 _ _ c.loop-i-test.true inside c.node-of.ensures)
+    (length-set nodes i _ ∙ c.loop-i.invariant.0, filled_more node_of c.args.rows.now nodes i c.loop-i.invariant.1 _ _ c.loop-i-test.true inside c.node_of.ensures)
 
 pub returns : goal.returns
 returns c = filled_all node_of c.args.rows.now c.loop-i.nodes c.loop-i.i c.loop-i.invariant.1 (omega arith)
 
-pub node-of-requires : goal.node-of-requires
-node-of-requires c = small c.args.rows.now c.requires c.loop-i.i _ c.loop-i-test.true
+pub node_of-requires : goal.node_of-requires
+node_of-requires c = small c.args.rows.now c.requires c.loop-i.i _ c.loop-i-test.true

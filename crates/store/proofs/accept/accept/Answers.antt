@@ -36,12 +36,12 @@ some_listed t e = sym (length-take-le t.count t.blocks (omega (arith, t.few, t.w
 
 pub returns-then-length-gt769 : goal.returns-then-length-gt769
 returns-then-length-gt769 c =
-    (refl, λ es lawful is. let n : c.from.result ≡ length es = c.from.ensures ∙ ap (λ (l : List ℕ). get_or l 0 0) c.image-in-image.ensures ∙ count_in c.args.homes.now es is in omega (arith, lawful.few))
+    (refl, λ es lawful is. let n : c.from.result ≡ length es = c.from.ensures ∙ ap (λ (l : List ℕ). get_or l 0 0) c.image_in-image.ensures ∙ count_in c.args.homes.now es is in omega (arith, lawful.few))
 
-pub returns-in-default : goal.returns-in-default
-returns-in-default c =
-    let img = c.image-in-image.ensures in
-    (refl, λ es lawful is. c.in-default.ensures es lawful (ap (take (1 + 16 * c.from.result - 0)) img ∙ image_of c.args.homes.now es c.from.result lawful.few is (c.from.ensures ∙ ap (λ (l : List ℕ). get_or l 0 0) img)))
+pub returns-in_default : goal.returns-in_default
+returns-in_default c =
+    let img = c.image_in-image.ensures in
+    (refl, λ es lawful is. c.in_default.ensures es lawful (ap (take (1 + 16 * c.from.result - 0)) img ∙ image_of c.args.homes.now es c.from.result lawful.few is (c.from.ensures ∙ ap (λ (l : List ℕ). get_or l 0 0) img)))
 
 pub returns-then-changed-eq0 : goal.returns-then-changed-eq0
 returns-then-changed-eq0 c =
@@ -52,7 +52,7 @@ returns-then-changed-eq0 c =
 
 pub returns-else-changed-eq0 : goal.returns-else-changed-eq0
 returns-else-changed-eq0 c =
-    let img = c.image-in-image.ensures in
+    let img = c.image_in-image.ensures in
     let es = used c.in-Ok.config in (
       refl,
       λ fs lawful is.

@@ -17,10 +17,10 @@ loop-j-preserved c =
     let j = c.loop-j.j in
     let at = 32 * j - 31 in
     let k = 32 * j + 1 - at in
-    let is : c.copy-from-slice.new.self ≡ get_or c.args.homes.now j [] = c.copy-from-slice.ensures.after in
-    let size : length c.copy-from-slice.new.self ≡ k = c.copy-from-slice.ensures.len ∙ length-take-le k (drop at c.loop-j.image) (omega (arith, length-drop at c.loop-j.image)) in
+    let is : c.copy_from_slice.new.self ≡ get_or c.args.homes.now j [] = c.copy_from_slice.ensures.after in
+    let size : length c.copy_from_slice.new.self ≡ k = c.copy_from_slice.ensures.len ∙ length-take-le k (drop at c.loop-j.image) (omega (arith, length-drop at c.loop-j.image)) in
     let page : length (get_or c.args.homes.now j []) ≡ 32 = ap length (sym is) ∙ omega arith in (
-      long at k c.loop-j.image c.copy-from-slice.new.self (omega arith) size ∙ c.loop-j.invariant.0,
+      long at k c.loop-j.image c.copy_from_slice.new.self (omega arith) size ∙ c.loop-j.invariant.0,
       subst (λ (l : List ℕ). Gathered (j + 1) c.args.homes.now (put_mid at k c.loop-j.image l)) (sym is)
           (gathered_more j c.args.homes.now c.loop-j.image (omega arith) (omega arith) c.told-homes c.loop-j.invariant.0 page c.loop-j.invariant.1),
     )

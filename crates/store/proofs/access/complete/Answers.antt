@@ -6,13 +6,13 @@ use Rattle.store.specs.Targets.{listed}
 use Rattle.store.proofs.Made.{one_write, closed_paired}
 use Rattle.store.proofs.access.complete.Goals as goal
 
-pub returns-in-err-write-home : goal.returns-in-err-write-home
-returns-in-err-write-home g c =
-    let lost : c.from-residual.result ≡ Err c.in-err-write-home.field-0.0 = search rules in
+pub returns-in_err-write_home : goal.returns-in_err-write_home
+returns-in_err-write_home g c =
+    let lost : c.from_residual.result ≡ Err c.in_err-write_home.field-0.0 = search rules in
     let some : 0 < length c.args.rows.now = omega arith in
-    rw lost (closed_paired (listed c.args.targets.now) c.args.rows.now c.requires.some some (carried_ends (write 0 (header_of []) ∷ []) c.in-err-write-home.ensures))
+    rw lost (closed_paired (listed c.args.targets.now) c.args.rows.now c.requires.some some (carried_ends (write 0 (header_of []) ∷ []) c.in_err-write_home.ensures))
 
 pub returns : goal.returns
 returns g c =
     let some : 0 < length c.args.rows.now = omega arith in
-    closed_paired (listed c.args.targets.now) c.args.rows.now c.requires.some some (carried_then c.in-ok-write-home.ensures (one_write c.write.result c.write.ensures))
+    closed_paired (listed c.args.targets.now) c.args.rows.now c.requires.some some (carried_then c.in_ok-write_home.ensures (one_write c.write.result c.write.ensures))

@@ -35,14 +35,14 @@ loop-i-init g c =
     let whole : n - 0 ≡ n = omega arith in
     (refl, reading_none bs c.args.first n c.args.rows.now, λ r e made. rw (here, whole) at made)
 
-pub returns-in-err-bytes : goal.returns-in-err-bytes
-returns-in-err-bytes g c =
+pub returns-in_err-bytes : goal.returns-in_err-bytes
+returns-in_err-bytes g c =
     let bs = g.D.Device.blocks c.args.device.now in
-    let lost : c.from-residual.result ≡ Err (Device c.in-err-bytes.field-0.0) = search rules in
+    let lost : c.from_residual.result ≡ Err (Device c.in_err-bytes.field-0.0) = search rules in
     let left = reads_left bs c.args.first c.loop-i.i (length c.args.rows.now) (omega arith) in
     record {
-      ended = Err c.in-err-bytes.field-0.0;
-      made = c.loop-i.invariant.2 _ _ (rw left (read_fails c.in-err-bytes.ensures));
+      ended = Err c.in_err-bytes.field-0.0;
+      made = c.loop-i.invariant.2 _ _ (rw left (read_fails c.in_err-bytes.ensures));
       answer = lost;
     }
 
@@ -51,11 +51,11 @@ returns-in-Damaged g c =
     let bs = g.D.Device.blocks c.args.device.now in
     let n = length c.args.rows.now in
     let there : c.loop-i.i < n = omega arith in
-    let b = read_block g.met.D.Device.reading _ _ _ _ c.in-ok-bytes.ensures in
+    let b = read_block g.met.D.Device.reading _ _ _ _ c.in_ok-bytes.ensures in
     let hit : Damaged ≡ get_or bs (c.args.first + c.loop-i.i) Damaged = sym c.in-Damaged.is ∙ b.0 ∙ ap (λ (l : List Block). get_or l (c.args.first + c.loop-i.i) Damaged) c.loop-i.invariant.0 in
     record {
       ended = Ok tt;
-      made = c.loop-i.invariant.2 _ _ (rw (with_damaged bs c.args.first c.loop-i.i n there hit) (read_on c.in-ok-bytes.ensures all));
+      made = c.loop-i.invariant.2 _ _ (rw (with_damaged bs c.args.first c.loop-i.i n there hit) (read_on c.in_ok-bytes.ensures all));
       answer = found_fault _ _ _ (reading_fault bs c.args.first n c.loop-i.i c.loop-i.rows there c.loop-i.invariant.1 hit);
     }
 
@@ -65,11 +65,11 @@ loop-i-preserved g c =
     let n = length c.args.rows.now in
     let there : c.loop-i.i < n = omega arith in
     let room : c.loop-i.i < length c.loop-i.rows = omega arith in
-    let b = read_block g.met.D.Device.reading _ _ _ _ c.in-ok-bytes.ensures in
+    let b = read_block g.met.D.Device.reading _ _ _ _ c.in_ok-bytes.ensures in
     let hit : Good c.in-Good.bytes ≡ get_or bs (c.args.first + c.loop-i.i) Damaged = sym c.in-Good.is ∙ b.0 ∙ ap (λ (l : List Block). get_or l (c.args.first + c.loop-i.i) Damaged) c.loop-i.invariant.0 in (
       b.1 ∙ c.loop-i.invariant.0,
       reading_more bs c.args.first n c.loop-i.i c.loop-i.rows there c.loop-i.invariant.1 c.in-Good.bytes room hit,
-      λ r e rest. c.loop-i.invariant.2 r e (rw (with_good bs c.args.first c.loop-i.i n c.in-Good.bytes there hit) (read_on c.in-ok-bytes.ensures rest)),
+      λ r e rest. c.loop-i.invariant.2 r e (rw (with_good bs c.args.first c.loop-i.i n c.in-Good.bytes there hit) (read_on c.in_ok-bytes.ensures rest)),
     )
 
 pub returns : goal.returns

@@ -21,16 +21,16 @@ next t rows i at h enough e =
     paired_left i (listed t) rows (omega arith) (omega arith)
     ∙ ap (λ (k : ℕ). write k (get_or rows i []) ∷ as_writes (paired (drop (i + 1) (listed t)) (drop (i + 1) rows))) there
 
-pub returns-in-err-write : goal.returns-in-err-write
-returns-in-err-write g c =
-    let lost : c.from-residual.result ≡ Err c.in-err-write.field-0.0 = search rules in
+pub returns-in_err-write : goal.returns-in_err-write
+returns-in_err-write g c =
+    let lost : c.from_residual.result ≡ Err c.in_err-write.field-0.0 = search rules in
     let plan = next c.args.targets.now c.args.rows.now c.loop-i.i c.from.result c.loop-i-test.true c.requires.enough c.from.ensures in
-    c.loop-i.invariant _ _ (rw (plan, lost) (write_fails c.in-err-write.ensures))
+    c.loop-i.invariant _ _ (rw (plan, lost) (write_fails c.in_err-write.ensures))
 
 pub loop-i-preserved : goal.loop-i-preserved
 loop-i-preserved g c r e rest =
     let plan = next c.args.targets.now c.args.rows.now c.loop-i.i c.from.result c.loop-i-test.true c.requires.enough c.from.ensures in
-    c.loop-i.invariant r e (rw plan (write_on c.in-ok-write.ensures rest))
+    c.loop-i.invariant r e (rw plan (write_on c.in_ok-write.ensures rest))
 
 pub returns : goal.returns
 returns g c =

@@ -4,14 +4,14 @@ use Rattle.device.specs.Accesses.{all, write_on, write_fails}
 use Rattle.journal.proofs.Steps.{run_left, run_none}
 use Rattle.store.proofs.access.write_run.Goals as goal
 
-pub returns-in-err-write : goal.returns-in-err-write
-returns-in-err-write g c =
-    let lost : c.from-residual.result ≡ Err c.in-err-write.field-0.0 = search rules in
-    c.loop-i.invariant _ _ (rw (run_left c.args.first c.loop-i.i c.args.rows.now c.loop-i-test.true, lost) (write_fails c.in-err-write.ensures))
+pub returns-in_err-write : goal.returns-in_err-write
+returns-in_err-write g c =
+    let lost : c.from_residual.result ≡ Err c.in_err-write.field-0.0 = search rules in
+    c.loop-i.invariant _ _ (rw (run_left c.args.first c.loop-i.i c.args.rows.now c.loop-i-test.true, lost) (write_fails c.in_err-write.ensures))
 
 pub loop-i-preserved : goal.loop-i-preserved
 loop-i-preserved g c r e rest =
-    c.loop-i.invariant r e (rw (run_left c.args.first c.loop-i.i c.args.rows.now c.loop-i-test.true) (write_on c.in-ok-write.ensures rest))
+    c.loop-i.invariant r e (rw (run_left c.args.first c.loop-i.i c.args.rows.now c.loop-i-test.true) (write_on c.in_ok-write.ensures rest))
 
 pub returns : goal.returns
 returns g c =

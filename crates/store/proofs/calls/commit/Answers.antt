@@ -8,22 +8,22 @@ use Rattle.journal.proofs.Steps.{journalled_parts}
 use Rattle.store.specs.Targets.{listed}
 use Rattle.store.proofs.calls.commit.Goals as goal
 
-pub returns-in-err-write-run : goal.returns-in-err-write-run
-returns-in-err-write-run g c =
+pub returns-in_err-write_run : goal.returns-in_err-write_run
+returns-in_err-write_run g c =
     let ts = listed c.args.targets.now in
-    let lost : c.from-residual.result ≡ Err c.in-err-write-run.field-0.0 = search rules in
+    let lost : c.from_residual.result ≡ Err c.in_err-write_run.field-0.0 = search rules in
     rw (journalled_parts ts c.args.rows.now c.requires.some c.requires.whole, lost)
-    (carried_ends (write 0 (header_of ts) ∷ as_writes (closed (paired ts c.args.rows.now))) c.in-err-write-run.ensures)
+    (carried_ends (write 0 (header_of ts) ∷ as_writes (closed (paired ts c.args.rows.now))) c.in_err-write_run.ensures)
 
-pub returns-in-err-write : goal.returns-in-err-write
-returns-in-err-write g c =
+pub returns-in_err-write : goal.returns-in_err-write
+returns-in_err-write g c =
     let ts = listed c.args.targets.now in
-    let lost : c.from-residual-in-err-write.result ≡ Err c.in-err-write.field-0.0 = search rules in
+    let lost : c.from_residual-in_err-write.result ≡ Err c.in_err-write.field-0.0 = search rules in
     rw (journalled_parts ts c.args.rows.now c.requires.some c.requires.whole, lost)
-    (carried_then c.in-ok-write-run.ensures (write_fails (rw c.header.ensures at c.in-err-write.ensures)))
+    (carried_then c.in_ok-write_run.ensures (write_fails (rw c.header.ensures at c.in_err-write.ensures)))
 
 pub returns : goal.returns
 returns g c =
     let ts = listed c.args.targets.now in
     rw (journalled_parts ts c.args.rows.now c.requires.some c.requires.whole)
-    (carried_then c.in-ok-write-run.ensures (write_on (rw c.header.ensures at c.in-ok-write.ensures) c.complete.ensures))
+    (carried_then c.in_ok-write_run.ensures (write_on (rw c.header.ensures at c.in_ok-write.ensures) c.complete.ensures))

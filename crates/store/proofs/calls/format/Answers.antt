@@ -8,32 +8,32 @@ use Rattle.store.proofs.Made.{format_of}
 use Rattle.store.proofs.Recovery.{large}
 use Rattle.store.proofs.calls.format.Goals as goal
 
-pub returns-in-err-write-run : goal.returns-in-err-write-run
-returns-in-err-write-run g c =
-    let lost : c.from-residual.result ≡ Err (Device c.in-err-write-run.field-0.0) = search rules in
+pub returns-in_err-write_run : goal.returns-in_err-write_run
+returns-in_err-write_run g c =
+    let lost : c.from_residual.result ≡ Err (Device c.in_err-write_run.field-0.0) = search rules in
     let room : 51 ≤ length (g.D.Device.blocks c.args.device.now) = omega arith in
     large _ _ _ _ _ room
     (record {
-      raised = c.power-up.new.self;
-      up = c.power-up.ensures;
+      raised = c.power_up.new.self;
+      up = c.power_up.ensures;
       made = record {
-        ended = Err c.in-err-write-run.field-0.0;
-        carried = format_of (used c.args.config.now) c.pages.result c.pages.ensures (carried_ends (write 0 (header_of []) ∷ []) c.in-err-write-run.ensures);
+        ended = Err c.in_err-write_run.field-0.0;
+        carried = format_of (used c.args.config.now) c.pages.result c.pages.ensures (carried_ends (write 0 (header_of []) ∷ []) c.in_err-write_run.ensures);
         answer = lost;
       };
     })
 
-pub returns-in-err-write : goal.returns-in-err-write
-returns-in-err-write g c =
-    let lost : c.from-residual-in-err-write.result ≡ Err (Device c.in-err-write.field-0.0) = search rules in
+pub returns-in_err-write : goal.returns-in_err-write
+returns-in_err-write g c =
+    let lost : c.from_residual-in_err-write.result ≡ Err (Device c.in_err-write.field-0.0) = search rules in
     let room : 51 ≤ length (g.D.Device.blocks c.args.device.now) = omega arith in
     large _ _ _ _ _ room
     (record {
-      raised = c.power-up.new.self;
-      up = c.power-up.ensures;
+      raised = c.power_up.new.self;
+      up = c.power_up.ensures;
       made = record {
-        ended = Err c.in-err-write.field-0.0;
-        carried = format_of (used c.args.config.now) c.pages.result c.pages.ensures (carried_then c.in-ok-write-run.ensures (write_fails c.in-err-write.ensures));
+        ended = Err c.in_err-write.field-0.0;
+        carried = format_of (used c.args.config.now) c.pages.result c.pages.ensures (carried_then c.in_ok-write_run.ensures (write_fails c.in_err-write.ensures));
         answer = lost;
       };
     })
@@ -43,11 +43,11 @@ returns g c =
     let room : 51 ≤ length (g.D.Device.blocks c.args.device.now) = omega arith in
     large _ _ _ _ _ room
     (record {
-      raised = c.power-up.new.self;
-      up = c.power-up.ensures;
+      raised = c.power_up.new.self;
+      up = c.power_up.ensures;
       made = record {
         ended = Ok tt;
-        carried = format_of (used c.args.config.now) c.pages.result c.pages.ensures (carried_then c.in-ok-write-run.ensures (write_on c.in-ok-write.ensures all));
+        carried = format_of (used c.args.config.now) c.pages.result c.pages.ensures (carried_then c.in_ok-write_run.ensures (write_on c.in_ok-write.ensures all));
         answer = mathlib.Core.Path.refl;
       };
     })

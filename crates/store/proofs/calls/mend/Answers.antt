@@ -11,32 +11,32 @@ not_good : (b : Block) → ((x : List ℕ) → b ≡ Good x → ⊥) → b ≡ D
 not_good (Good x) h = absurd (h x refl)
 not_good Damaged h = refl
 
-pub returns-in-err-bytes : goal.returns-in-err-bytes
-returns-in-err-bytes g c =
-    let lost : c.from-residual.result ≡ Err (Device c.in-err-bytes.field-0.0) = search rules in
-    unread_header g.D.Device.blocks g.D.Device.reads g.D.Device.writes _ _ _ c.in-err-bytes.field-0.0 c.in-err-bytes.ensures lost
+pub returns-in_err-bytes : goal.returns-in_err-bytes
+returns-in_err-bytes g c =
+    let lost : c.from_residual.result ≡ Err (Device c.in_err-bytes.field-0.0) = search rules in
+    unread_header g.D.Device.blocks g.D.Device.reads g.D.Device.writes _ _ _ c.in_err-bytes.field-0.0 c.in_err-bytes.ensures lost
 
-pub returns-in-default : goal.returns-in-default
-returns-in-default g c =
-    let s = c.in-ok-bytes.ensures in
+pub returns-in_default : goal.returns-in_default
+returns-in_default g c =
+    let s = c.in_ok-bytes.ensures in
     let b = read_block g.met.D.Device.reading _ _ _ _ s in
-    damaged_header g.D.Device.blocks g.D.Device.reads g.D.Device.writes _ _ _ c.in-ok-bytes.field-0 (not_good c.in-ok-bytes.field-0 c.in-default.not-Good) s b.0 refl
+    damaged_header g.D.Device.blocks g.D.Device.reads g.D.Device.writes _ _ _ c.in_ok-bytes.field-0 (not_good c.in_ok-bytes.field-0 c.in_default.not-Good) s b.0 refl
 
-pub returns-in-default-parse-header : goal.returns-in-default-parse-header
-returns-in-default-parse-header g c =
-    let s = c.in-ok-bytes.ensures in
+pub returns-in_default-parse_header : goal.returns-in_default-parse_header
+returns-in_default-parse_header g c =
+    let s = c.in_ok-bytes.ensures in
     let b = read_block g.met.D.Device.reading _ _ _ _ s in
-    bad_header g.D.Device.blocks g.D.Device.reads g.D.Device.writes _ _ _ c.in-ok-bytes.field-0 c.in-Good.bytes c.in-Good.is s b.0 c.in-default-parse-header.ensures refl
+    bad_header g.D.Device.blocks g.D.Device.reads g.D.Device.writes _ _ _ c.in_ok-bytes.field-0 c.in-Good.bytes c.in-Good.is s b.0 c.in_default-parse_header.ensures refl
 
 pub returns-then-targets-eq0 : goal.returns-then-targets-eq0
 returns-then-targets-eq0 g c =
-    let s = c.in-ok-bytes.ensures in
+    let s = c.in_ok-bytes.ensures in
     let b = read_block g.met.D.Device.reading _ _ _ _ s in
     let none : [] ≡ listed c.in-Some.targets = sym (ap (λ (n : ℕ). take n c.in-Some.targets.blocks) c.if-targets-eq0.true) in
-    empty_header g.D.Device.blocks g.D.Device.reads g.D.Device.writes _ _ _ c.in-ok-bytes.field-0 c.in-Good.bytes c.in-Good.is s b.0 (ap Some none ∙ c.in-Some.ensures) refl
+    empty_header g.D.Device.blocks g.D.Device.reads g.D.Device.writes _ _ _ c.in_ok-bytes.field-0 c.in-Good.bytes c.in-Good.is s b.0 (ap Some none ∙ c.in-Some.ensures) refl
 
 pub returns : goal.returns
 returns g c =
-    let s = c.in-ok-bytes.ensures in
+    let s = c.in_ok-bytes.ensures in
     let b = read_block g.met.D.Device.reading _ _ _ _ s in
-    full_header g.D.Device.blocks g.D.Device.reads g.D.Device.writes _ _ _ c.in-ok-bytes.field-0 c.in-Good.bytes (listed c.in-Some.targets) _ c.in-Good.is s b.0 c.in-Some.ensures b.1 c.redo.ensures
+    full_header g.D.Device.blocks g.D.Device.reads g.D.Device.writes _ _ _ c.in_ok-bytes.field-0 c.in-Good.bytes (listed c.in-Some.targets) _ c.in-Good.is s b.0 c.in-Some.ensures b.1 c.redo.ensures

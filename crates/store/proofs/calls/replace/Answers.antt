@@ -41,15 +41,15 @@ returns-then-targets-eq0 g c =
     let none = nothing c.changed-targets.result (used c.args.old.now) (used c.args.new.now) c.pages.result c.pages-homes.result c.pages.ensures c.pages-homes.ensures c.changed-targets.ensures c.if-targets-eq0.true in
     large _ _ _ _ _ room (record { ended = Ok tt; carried = rw none all; answer = refl })
 
-pub returns-in-err-commit : goal.returns-in-err-commit
-returns-in-err-commit g c =
+pub returns-in_err-commit : goal.returns-in_err-commit
+returns-in_err-commit g c =
     let room : 51 ≤ length (g.D.Device.blocks c.args.device.now) = omega arith in
-    let lost : c.from-residual.result ≡ Err (Device c.in-err-commit.field-0.0) = search rules in
+    let lost : c.from_residual.result ≡ Err (Device c.in_err-commit.field-0.0) = search rules in
     let is = changes_are c.changed-targets.result (used c.args.old.now) (used c.args.new.now) c.pages.result c.pages-homes.result c.gather-rows.result c.pages.ensures c.pages-homes.ensures c.changed-targets.ensures c.gather-rows.ensures in
-    large _ _ _ _ _ room (record { ended = Err c.in-err-commit.field-0.0; carried = rw is at c.in-err-commit.ensures; answer = lost })
+    large _ _ _ _ _ room (record { ended = Err c.in_err-commit.field-0.0; carried = rw is at c.in_err-commit.ensures; answer = lost })
 
 pub returns : goal.returns
 returns g c =
     let room : 51 ≤ length (g.D.Device.blocks c.args.device.now) = omega arith in
     let is = changes_are c.changed-targets.result (used c.args.old.now) (used c.args.new.now) c.pages.result c.pages-homes.result c.gather-rows.result c.pages.ensures c.pages-homes.ensures c.changed-targets.ensures c.gather-rows.ensures in
-    large _ _ _ _ _ room (record { ended = Ok tt; carried = rw is at c.in-ok-commit.ensures; answer = refl })
+    large _ _ _ _ _ room (record { ended = Ok tt; carried = rw is at c.in_ok-commit.ensures; answer = refl })

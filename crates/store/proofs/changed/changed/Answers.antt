@@ -37,8 +37,8 @@ loop-i-preserved c =
       | else-not-same w ↦ passed_over i.i i.count _ i.blocks _ c.args.old.now c.args.new.now c.loop-i-test.true i.invariant.0 i.invariant.1 c.told-old c.told-new i.invariant.2 (sym c.same.ensures ∙ w.if-not-same.false) w.count-is w.blocks-is
     ]
 
-pub invariant-of-result : goal.invariant-of-result
-invariant-of-result c =
+pub invariant_of-result : goal.invariant_of-result
+invariant_of-result c =
     let i = c.loop-i in
     let end : i.i ≡ length c.args.old.now = omega arith in
     let all = listing_all i.i c.args.old.now c.args.new.now (take i.count i.blocks) end i.invariant.2 in

@@ -13,8 +13,8 @@ home t i h =
     let same : get_or (listed t) i 0 ≡ get_or t.blocks i 0 = get_or-take t.count t.blocks i 0 h in
     (omega (arith, p.0), omega (arith, p.1))
 
-pub overflow-sub-rows : goal.overflow-sub-rows
-overflow-sub-rows c = let p = home c.args.targets.now c.loop-i.i c.loop-i-test.true in omega (arith, p.0, c.from.ensures)
+pub overflow_sub-rows : goal.overflow_sub-rows
+overflow_sub-rows c = let p = home c.args.targets.now c.loop-i.i c.loop-i-test.true in omega (arith, p.0, c.from.ensures)
 
 pub bounds-homes-from : goal.bounds-homes-from
 bounds-homes-from c = let p = home c.args.targets.now c.loop-i.i c.loop-i-test.true in omega (arith, p.1, c.from.ensures)

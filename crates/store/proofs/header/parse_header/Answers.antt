@@ -39,28 +39,28 @@ returns-then-count-gt-HOMES c = sym (too_many c.args.bytes.now (take 25 (drop 1 
 
 pub returns-then-not-rise : goal.returns-then-not-rise
 returns-then-not-rise c =
-    sym (falling c.args.bytes.now c.target-bytes-blocks.result c.from-count.result c.told-bytes c.from-count.ensures c.target-bytes-blocks.ensures (sym c.rise.ensures ∙ c.if-not-rise.true))
+    sym (falling c.args.bytes.now c.target_bytes-blocks.result c.from-count.result c.told-bytes c.from-count.ensures c.target_bytes-blocks.ensures (sym c.rise.ensures ∙ c.if-not-rise.true))
 
-pub invariant-of-targets : goal.invariant-of-targets
-invariant-of-targets c =
+pub invariant_of-targets : goal.invariant_of-targets
+invariant_of-targets c =
     let h = c.args.bytes.now in
     let n = c.from-count.result in
-    let b = c.target-bytes-blocks.result in
-    (room h b n c.told-bytes c.from-count.ensures c.target-bytes-blocks.ensures, (c.if-count-gt-HOMES.false, (rises h b n c.told-bytes c.from-count.ensures c.target-bytes-blocks.ensures (sym c.rise.ensures ∙ c.if-not-rise.false), tt)))
+    let b = c.target_bytes-blocks.result in
+    (room h b n c.told-bytes c.from-count.ensures c.target_bytes-blocks.ensures, (c.if-count-gt-HOMES.false, (rises h b n c.told-bytes c.from-count.ensures c.target_bytes-blocks.ensures (sym c.rise.ensures ∙ c.if-not-rise.false), tt)))
 
 pub returns-then-eq : goal.returns-then-eq
 returns-then-eq c =
     let h = c.args.bytes.now in
     let n = c.from-count.result in
-    let b = c.target-bytes-blocks.result in
-    whole h b n c.told-bytes c.from-count.ensures c.target-bytes-blocks.ensures
-    (rises h b n c.told-bytes c.from-count.ensures c.target-bytes-blocks.ensures (sym c.rise.ensures ∙ c.if-not-rise.false))
+    let b = c.target_bytes-blocks.result in
+    whole h b n c.told-bytes c.from-count.ensures c.target_bytes-blocks.ensures
+    (rises h b n c.told-bytes c.from-count.ensures c.target_bytes-blocks.ensures (sym c.rise.ensures ∙ c.if-not-rise.false))
     (sym c.header.ensures ∙ (slice_eq-Decides Decides-eqb _ _ _ c.eq.ensures).0 c.if-eq.true)
 
 pub returns-else-eq : goal.returns-else-eq
 returns-else-eq c =
     let h = c.args.bytes.now in
     let n = c.from-count.result in
-    let b = c.target-bytes-blocks.result in
-    other h b n c.told-bytes c.from-count.ensures c.target-bytes-blocks.ensures
+    let b = c.target_bytes-blocks.result in
+    other h b n c.told-bytes c.from-count.ensures c.target_bytes-blocks.ensures
     (λ e. let yes' : c.eq.result ≡ true = (slice_eq-Decides Decides-eqb _ _ _ c.eq.ensures).1 (c.header.ensures ∙ e) in let z : ◌≡◌ {A = ℕ} 0 1 = cc (c.if-eq.false, yes') in omega arith)

@@ -14,8 +14,8 @@ pub loop-j-init : goal.loop-j-init
 unfolding home_pages
 loop-j-init c =
     let es = used c.args.config.now in
-    let count = first_byte es c.image-of-bytes.result (few_entries c.args.config.now) c.image-of-bytes.ensures in
-    (refl, ap (λ (p : List ℕ). p ∷ []) (c.first-page-pages.ensures ∙ ap (λ (n : ℕ). 1 ∷ (n ∷ zeros 30)) count))
+    let count = first_byte es c.image_of-bytes.result (few_entries c.args.config.now) c.image_of-bytes.ensures in
+    (refl, ap (λ (p : List ℕ). p ∷ []) (c.first_page-pages.ensures ∙ ap (λ (n : ℕ). 1 ∷ (n ∷ zeros 30)) count))
 
 -- one home block more
 placed : (j : ℕ) (ps hs : Pages) (p : List ℕ) → j < 25 → length ps ≡ 25 → length hs ≡ 25 → take j ps ≡ take j hs → p ≡ get_or hs j [] → take (j + 1) (set ps j p) ≡ take (j + 1) hs
@@ -31,9 +31,9 @@ pub loop-j-preserved : goal.loop-j-preserved
 loop-j-preserved c =
     let cf = c.args.config.now in
     let es = used cf in
-    let p = c.block-at.result in
+    let p = c.block_at.result in
     let here : p ≡ get_or (home_pages es) c.loop-j.j [] =
-    c.block-at.ensures ∙ page_at es c.image-of-bytes.result c.loop-j.j (few_entries cf) c.image-of-bytes.ensures (omega arith) (omega arith) in (
+    c.block_at.ensures ∙ page_at es c.image_of-bytes.result c.loop-j.j (few_entries cf) c.image_of-bytes.ensures (omega arith) (omega arith) in (
       length-set c.loop-j.pages c.loop-j.j p ∙ c.loop-j.invariant.0,
       placed c.loop-j.j c.loop-j.pages (home_pages es) p (omega arith) c.loop-j.invariant.0 (length_homes es) c.loop-j.invariant.1 here,
     )

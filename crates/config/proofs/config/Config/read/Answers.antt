@@ -6,6 +6,6 @@ use Rattle.config.specs.Lawful.{Lawful}
 use Rattle.config.proofs.Images.{image_same}
 use Rattle.config.proofs.config.Config.read.Goals as goal
 
-pub returns-else-is-lawful : goal.returns-else-is-lawful
-returns-else-is-lawful c es lawful is =
-    false≢true (c.if-is-lawful.ensures.1 (subst (λ l. Lawful (nodes c.args.schema.now) l) (image_same es (used c.in-Some.config) (sym is ∙ c.in-Some.ensures)) lawful))
+pub returns-else-is_lawful : goal.returns-else-is_lawful
+returns-else-is_lawful c es lawful is =
+    false≢true (c.if-is_lawful.ensures.1 (subst (λ l. Lawful (nodes c.args.schema.now) l) (image_same es (used c.in-Some.config) (sym is ∙ c.in-Some.ensures)) lawful))

@@ -11,8 +11,8 @@ loop-i-preserved g c =
     let lt : c.loop-i.i < length c.loop-i.entries = omega (arith, inv.long, c.loop-i-test.true, self.whole, self.few) in
     elim c.if-keeps.branch [ then_Keeps w ↦ turn_yes f self.entries c.loop-i.entries c.if-keeps.entries c.loop-i.count c.if-keeps.count c.loop-i.i _ inv lt (sym c.keeps.ensures ∙ w.if-keeps.true) w.entries-is w.count-is | else-keeps w ↦ turn_no f self.entries c.loop-i.entries c.if-keeps.entries c.loop-i.count c.if-keeps.count c.loop-i.i _ inv lt (sym c.keeps.ensures ∙ w.if-keeps.false) w.entries-is w.count-is ]
 
-pub invariant-of-self : goal.invariant-of-self
-invariant-of-self g c =
+pub invariant_of-self : goal.invariant_of-self
+invariant_of-self g c =
     let self = c.args.self.now in
     let inv = c.loop-i.invariant in
     let done : c.loop-i.i ≡ self.count = omega (arith, c.loop-i-test.false, c.loop-i.auto.i-end) in

@@ -11,12 +11,12 @@ returns-then-not-lawful c = λ h. false≢true (c.if-not-lawful.ensures ∙ lawf
 pub loop-record-init : goal.loop-record-init
 loop-record-init c = (sym c.if-not-lawful.ensures, refl, omega arith, refl, refl)
 
-pub returns-in-default : goal.returns-in-default
-returns-in-default c = λ h.
+pub returns-in_default : goal.returns-in_default
+returns-in_default c = λ h.
     let inv = c.loop-record.invariant in
     let i = c.loop-record.record-index in
     let bs = c.args.records.now in
-    let full = c.in-default.ensures.puts (so_far bs c.loop-record.rows c.loop-record.count i h.rises inv.4 c.loop-record-test.true) in
+    let full = c.in_default.ensures.puts (so_far bs c.loop-record.rows c.loop-record.count i h.rises inv.4 c.loop-record-test.true) in
     let few = h.few in
     omega (arith, full, one_more_length bs c.loop-record.rows c.loop-record.count i h.rises inv.4 c.loop-record-test.true)
 
@@ -33,8 +33,8 @@ loop-record-preserved c =
     let few : c.in-Ok.used ≤ 8 = omega (arith, c.in-Ok.ensures.stays.0) in
     (inv.0, c.put.auto.rows ∙ inv.1, few, p.count_is ∙ one_more_length bs rows count i up inv.4 t, p.rows_are ∙ one_more bs rows count i up inv.4 t)
 
-pub invariant-of-result : goal.invariant-of-result
-invariant-of-result c =
+pub invariant_of-result : goal.invariant_of-result
+invariant_of-result c =
     let inv = c.loop-record.invariant in
     let bs = c.args.records.now in
     (inv.1, (inv.2, (ap bounds_lawful (inv.4 ∙ take_all _ bs c.loop-record-test.false) ∙ inv.0, tt)))
