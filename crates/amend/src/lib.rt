@@ -1,4 +1,6 @@
 // One change of a configuration, and the image after it.
+#![tactic(auto)]
+
 ghost use Rattle.amend.specs.Amends.{Answered};
 ghost use Rattle.fault.specs.Reports.{at_path, plain};
 ghost use Rattle.schema.specs.Nodes.{nodes};

@@ -1,4 +1,6 @@
 // The calls of the engine, their answers, and the faults that refuse them.
+#![tactic(auto)]
+
 mod call;
 mod faults;
 

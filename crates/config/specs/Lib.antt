@@ -3,3 +3,4 @@ pub mod Configs
 pub mod Lawful
 pub mod Images
 pub mod Laws
+pub mod Equal

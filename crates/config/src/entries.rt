@@ -1,8 +1,11 @@
 // What a configuration holds, and how entries are put in and taken out.
+ghost use Rattle.config.specs.Equal.{same_config};
 ghost use Rattle.config.specs.Configs.{found, PutAnswer, TakeAnswer, used};
 ghost use Rattle.std.specs.Prelude.{◌≡◌, [], Decides};
+ghost use Rattle.std.specs.Cmp.{on_per};
+ghost use Rattle.std.specs.Cmp.Lexicographic.{lists_per};
 ghost use Rattle.std.specs.Cmp.Rules.{comparing};
-ghost use Rattle.std.proofs.Common.{rules, arith};
+ghost use Rattle.std.proofs.Common.{rules};
 
 use crate::config::{Config, Full};
 use crate::entry::Entry;
@@ -72,11 +75,14 @@ impl Config {
 
 // Configurations are equal if their entries are.
 impl PartialEq for Config {
-    ghost equals = { λ a b r. Decides r (used a ≡ used b) };
+    ghost eq = { same_config };
 
-    ghost laws = { first_of (Prim.search (comparing, rules), Prim.grind (arith, Self.row.coded.inj)) };
+    ghost laws = { on_per used (lists_per (Prim.search (comparing, rules))) };
 
-    fn eq(&self, other: &Config) -> bool {
+    fn eq(&self, other: &Config) -> bool
+        ensures computes { result ≡ same_config self.now other.now }
+        ensures decides { Decides result (used self.now ≡ used other.now) }
+    {
         self.entries() == other.entries()
     }
 }

@@ -1,4 +1,5 @@
 // An entry of a configuration, and the order of entries.
+ghost use Rattle.config.specs.Equal.{same_entry};
 ghost use Rattle.config.specs.Order.{entry_form, path_sooner};
 ghost use Rattle.std.specs.Prelude.{◌≡◌, [], ◌∷◌, Some, Decides};
 ghost use Rattle.fault.specs.Text.{spaced};
@@ -18,11 +19,14 @@ pub struct Entry {
 }
 
 impl PartialEq for Entry {
-    ghost equals = { λ a b r. Decides r (a ≡ b) };
+    ghost eq = { same_entry };
 
     ghost laws = { Prim.search (comparing, rules) };
 
-    fn eq(&self, other: &Entry) -> bool {
+    fn eq(&self, other: &Entry) -> bool
+        ensures computes { result ≡ same_entry self.now other.now }
+        ensures decides { Decides result (self.now ≡ other.now) }
+    {
         self.path == other.path && self.value == other.value
     }
 }

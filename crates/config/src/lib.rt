@@ -1,4 +1,6 @@
 // Configurations: entries at paths in rising order, and their images as bytes.
+#![tactic(auto)]
+
 mod choice;
 mod config;
 mod entries;

@@ -1,4 +1,6 @@
 // Tests of the refusals, the ordered table, the schema and the configurations, at the edges of their rules.
+#![tactic(auto)]
+
 #[cfg(test)]
 mod configs;
 #[cfg(test)]

@@ -1,5 +1,7 @@
 // A block device that may lose power at any access: what it means, what it may answer, and what a list of accesses
 // made of it comes to.
+#![tactic(auto)]
+
 ghost use Rattle.std.specs.Prelude.{◌≡◌, ℕ, Bool, true, List, length, Err, Result};
 ghost use Rattle.device.specs.declared.Block.{Block};
 ghost use Rattle.device.specs.declared.DeviceFault.{DeviceFault};

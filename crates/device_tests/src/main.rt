@@ -1,6 +1,8 @@
 // Writes a block on each device with power cut at every byte, and prints what reads back.
 //
 // A letter stands for a block: o as before, n new, d damaged, x anything else. It is a capital where the write was done.
+#![tactic(auto)]
+
 use device::{Block, Device, DeviceFault};
 use flash::Flash;
 use image::Image;

@@ -2,6 +2,7 @@
 //
 // An item has an operation, a target and a value. It is judged when its turn comes, on the configuration that the items before
 // it left. The error option says what a refused item does to the others.
+#![tactic(auto)]
 
 mod faults;
 mod held;

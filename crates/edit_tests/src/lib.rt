@@ -1,4 +1,6 @@
 // Tests of the edits: each operation on each kind of target, the faults of an item, the error options and edit lists as bytes.
+#![tactic(auto)]
+
 #[cfg(test)]
 mod absent;
 #[cfg(test)]

@@ -3,6 +3,8 @@
 // A form is four head bytes and three numbers of 32 bits, the most significant byte first. A counted list is a count byte and
 // then the form of each record. It is read strictly: bytes are accepted only if they are the counted list of some records, and
 // these come out.
+#![tactic(auto)]
+
 mod counted;
 mod form;
 

@@ -2,6 +2,8 @@
 //
 // Every call is performed as the rules say, or refused by a number. The standing configuration is the one that a restart gives.
 // Nothing here allocates.
+#![tactic(auto)]
+
 mod commits;
 mod datastores;
 mod edits;

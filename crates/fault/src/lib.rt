@@ -2,6 +2,8 @@
 //
 // A refusal is told by eight plain numbers: the refusal number, the layer that it belongs to, a cause, the item of an edit
 // list, how many items were kept, and a path. A field without use is 0.
+#![tactic(auto)]
+
 ghost use Rattle.fault.specs.Numbers.{OneLayer, layer_at, layer_number};
 ghost use Rattle.fault.specs.Rows.{looked_up};
 ghost use Rattle.fault.specs.Reports.{at_path, because, in_item, plain};

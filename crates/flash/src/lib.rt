@@ -1,5 +1,7 @@
 // A device in flash memory: block i takes the 33 bytes from 33 times i, 32 payload bytes and a mark, and is good exactly
 // when the mark is 0x00. Erasing a byte gives 0xFF, and programming one only clears bits.
+#![tactic(auto)]
+
 ghost use Rattle.std.specs.Prelude.{◌≡◌, ℕ, ◌+◌, ◌*◌, ◌/◌, ◌<◌, ◌≤◌, true, false, [], ◌∷◌, length, take, vec_len, slice_index_or};
 ghost use Rattle.std.proofs.Common.{ap};
 ghost use Rattle.supply.specs.Budget.{is_on};

@@ -1,5 +1,7 @@
 // A device in a byte image: block i takes the 34 bytes from 34 times i, a front byte, 32 payload bytes and a back byte,
 // and is good exactly when front and back are equal.
+#![tactic(auto)]
+
 ghost use Rattle.std.specs.Prelude.{◌≡◌, ℕ, ◌+◌, ◌*◌, ◌/◌, ◌<◌, ◌≤◌, true, false, List, [], ◌∷◌, ◌++◌, length, take, vec_len, slice_index_or};
 ghost use Rattle.std.proofs.Common.{ap};
 ghost use Rattle.supply.specs.declared.Supply.{Supply as Source};

@@ -3,6 +3,8 @@
 //
 // Words: the *header* is block 0, the *records* are blocks 1 to 25, the *home blocks* 26 to 50. The header names home blocks, its
 // targets, whose new bytes lie in the records. An *idle* store has nothing journalled.
+#![tactic(auto)]
+
 ghost use Rattle.journal.specs.Laws.{HeaderReads, HeaderAlone, HomesDecide, RestoresOnce, IdleRestores, FormatFinishes, CommitRecovers, CommitDecides, CommitFinishes, CommitWrites, RepairRecovers, RepairFinishes, RestartsKeep, PlansWithin};
 
 // law: a header has 32 bytes and reads back as its targets, and no other bytes do.

@@ -1,4 +1,6 @@
 // A device of two sides that hold the same blocks, so that a block is lost only where both sides lose it.
+#![tactic(auto)]
+
 ghost use Rattle.std.specs.Prelude.{◌≡◌, ◌&&◌, Err};
 ghost use Rattle.std.proofs.Common.{ap, ◌∙◌};
 ghost use Rattle.device.specs.Reach.{UnlessRefused};

@@ -143,11 +143,11 @@ module _ {D : Type 0} {blocks : D → List Block} {powered : D → Bool} {raises
 
   held_links : (m : Model) (d : D) (h : Held) → L m d → L (with_held m h) d
   held_links m d h l =
-      record { room = l.room; restores = l.restores; live = l.live; running_lawful = l.running-lawful; candidate_lawful = l.candidate-lawful; running_valid = l.running-valid; standing_valid = l.standing-valid; settled = l.settled }
+      record { room = l.room; restores = l.restores; live = l.live; running_lawful = l.running_lawful; candidate_lawful = l.candidate_lawful; running_valid = l.running_valid; standing_valid = l.standing_valid; settled = l.settled }
 
   candidate_links : (m : Model) (d : D) (es : List Entry) → Lawful (nodes s) es → L m d → L (with_candidate m es) d
   candidate_links m d es h l =
-      record { room = l.room; restores = l.restores; live = l.live; running_lawful = l.running-lawful; candidate_lawful = h; running_valid = l.running-valid; standing_valid = l.standing-valid; settled = l.settled }
+      record { room = l.room; restores = l.restores; live = l.live; running_lawful = l.running_lawful; candidate_lawful = h; running_valid = l.running_valid; standing_valid = l.standing_valid; settled = l.settled }
 
   event_links : (m : Model) (d : D) (e : Happening) → Ending m.trial e → L m d → L (after_event m e) d
   event_links m d e (inl r) l =
@@ -157,9 +157,9 @@ module _ {D : Type 0} {blocks : D → List Block} {powered : D → Bool} {raises
         restores = l.restores;
         live = l.live;
         running_lawful = subst (Lawful (nodes s)) (sym same) (standing_lawful l);
-        candidate_lawful = l.candidate-lawful;
-        running_valid = ap verdict same ∙ l.standing-valid;
-        standing_valid = l.standing-valid;
+        candidate_lawful = l.candidate_lawful;
+        running_valid = ap verdict same ∙ l.standing_valid;
+        standing_valid = l.standing_valid;
         settled = λ on p. same;
       }
   event_links m d e (inr r) l =
@@ -168,10 +168,10 @@ module _ {D : Type 0} {blocks : D → List Block} {powered : D → Bool} {raises
         room = l.room;
         restores = l.restores;
         live = l.live;
-        running_lawful = subst (Lawful (nodes s)) (sym same) l.running-lawful;
-        candidate_lawful = l.candidate-lawful;
-        running_valid = ap verdict same ∙ l.running-valid;
-        standing_valid = l.standing-valid;
+        running_lawful = subst (Lawful (nodes s)) (sym same) l.running_lawful;
+        candidate_lawful = l.candidate_lawful;
+        running_valid = ap verdict same ∙ l.running_valid;
+        standing_valid = l.standing_valid;
         settled = λ on p. same ∙ l.settled on (r.1 p);
       }
 
@@ -190,10 +190,10 @@ module _ {D : Type 0} {blocks : D → List Block} {powered : D → Bool} {raises
         room = l.room;
         restores = l.restores;
         live = l.live;
-        running_lawful = l.candidate-lawful;
-        candidate_lawful = l.candidate-lawful;
+        running_lawful = l.candidate_lawful;
+        candidate_lawful = l.candidate_lawful;
         running_valid = v.1;
-        standing_valid = l.standing-valid;
+        standing_valid = l.standing_valid;
         settled = λ on p. absurd (let x : true ≡ false = sym up ∙ p in let z : ◌≡◌ {A = ℕ} 0 1 = cc in omega arith);
       }
 
@@ -203,7 +203,7 @@ module _ {D : Type 0} {blocks : D → List Block} {powered : D → Bool} {raises
   edit_links o m n None (Some w) a m' d d' l j same = absurd j
   edit_links o m n (Some is) (Some w) a m' d d' l j same =
       subst (λ (x : D). L m' x) (sym same)
-      (subst (λ (x : Model). L x d) (sym j.1) (candidate_links m d (left (does (nodes s)) w m.candidate is) (left_lawful s w m.candidate is l.candidate-lawful) l))
+      (subst (λ (x : Model). L x d) (sym j.1) (candidate_links m d (left (does (nodes s)) w m.candidate is) (left_lawful s w m.candidate is l.candidate_lawful) l))
 
   edits_link : (o : Option EngineFault) (m : Model) (n : ℕ) (items : Option (List Item)) (a : Answer) (m' : Model) (d d' : D) → L m d → EditsUnless o (nodes s) m n items a m' → d' ≡ d → L m' d'
   edits_link (Some f) m n items a m' d d' l j same = subst (λ (x : D). L m' x) (sym same) (subst (λ (x : Model). L x d) (sym j.1) l)
@@ -239,9 +239,9 @@ module _ {D : Type 0} {blocks : D → List Block} {powered : D → Bool} {raises
         room = room;
         restores = found;
         live = λ on. absurd (let z : ◌≡◌ {A = ℕ} 0 1 = cc in omega arith);
-        running_lawful = l.running-lawful;
-        candidate_lawful = l.candidate-lawful;
-        running_valid = l.running-valid;
+        running_lawful = l.running_lawful;
+        candidate_lawful = l.candidate_lawful;
+        running_valid = l.running_valid;
         standing_valid = valid;
         settled = λ on p. absurd (let z : ◌≡◌ {A = ℕ} 0 1 = cc in omega arith);
       }
@@ -260,14 +260,14 @@ module _ {D : Type 0} {blocks : D → List Block} {powered : D → Bool} {raises
 
   by_outcome_of : (m : Model) (d d' : D) (a : Answer) (x : Model) {r : Result Unit StoreFault} {bs : List Block} {p : Bool} → L m d → m.on ≡ true → verdict m.candidate ≡ Ok tt → 51 ≤ length (blocks d') → ((r ≡ Ok tt) ⊎ (m.standing ≡ m.candidate → ⊥)) → standing.ReplaceOutcome (nodes s) m.standing m.candidate r bs p → bs ≡ blocks d' → p ≡ powered d' → StoredAs m r (powered d') a x → (m' : Model) × StandsAfter m a m' × Tied x m' d'
   by_outcome_of m d d' a x l on valid size changed (standing.ReplaceOutcome.done idle') eb ep j =
-      let here : L (committed m) d' = committed_links m d' l.candidate-lawful valid (sym ep) (subst (λ (b : List Block). Idle b m.candidate) eb idle') in
+      let here : L (committed m) d' = committed_links m d' l.candidate_lawful valid (sym ep) (subst (λ (b : List Block). Idle b m.candidate) eb idle') in
       let is : committed m ≡ x = sym (j.1 ∙ ap (with_on (committed m)) (sym ep ∙ sym on)) in
       (committed m, subst (λ (y : Answer). StandsAfter m y (committed m)) (sym j.0) stored, subst (λ (y : Model). Tied y (committed m) d') is (tied (committed m) d' here))
   by_outcome_of m d d' a x l on valid size (inl ok) (standing.ReplaceOutcome.cut rec) eb ep j = absurd (let z : ◌≡◌ {A = ℕ} 0 1 = cc in omega arith)
   by_outcome_of m d d' a x l on valid size (inr differs) (standing.ReplaceOutcome.cut {at = at} (journal.Recovered.kept h found)) eb ep j =
       let m' = with_on m false in
       let is : m' ≡ x = sym (j.1 ∙ ap (with_on m) (sym ep)) in
-      let here : L m' d' = cut_links m d d' m.standing l size (subst (λ (b : List Block). Restores (nodes s) b (Ok m.standing)) eb found) l.standing-valid in
+      let here : L m' d' = cut_links m d d' m.standing l size (subst (λ (b : List Block). Restores (nodes s) b (Ok m.standing)) eb found) l.standing_valid in
       (m', subst (λ (y : Answer). StandsAfter m y m') (sym j.0) (before differs h), subst (λ (y : Model). Tied y m' d') is (tied m' d' here))
   by_outcome_of m d d' a x l on valid size (inr differs) (standing.ReplaceOutcome.cut {at = at} (journal.Recovered.moved h found)) eb ep j =
       let m' = with_on (with_standing m m.candidate) false in
@@ -291,7 +291,7 @@ module _ {D : Type 0} {blocks : D → List Block} {powered : D → Bool} {raises
       let up = l.live on in
       let seen_at = (blocks_after rule-u rule-r rule-w un-r un-w).replace d m.standing m.candidate c.result d' l.room up.0 c.stored in
       let wide : 51 ≤ length (blocks d') = omega (arith, l.room, executed_length seen_at.1) in
-      let outcome = (stands rule-u rule-r rule-w un-r un-w).replace (nodes s) d m.standing m.candidate c.result d' lo l.candidate-lawful up.1 up.0 c.stored in
+      let outcome = (stands rule-u rule-r rule-w un-r un-w).replace (nodes s) d m.standing m.candidate c.result d' lo l.candidate_lawful up.1 up.0 c.stored in
       let made = not_small (blocks d) (Made reads writes d (as_writes (commit_plan m.standing m.candidate)) c.result d') c.result d d' l.room c.stored in
       let r = by_outcome_of m d d' a x l on v.1 wide (changed c.result c.stored) outcome refl refl c.answer in
       (r.0, r.1, record { ended = made.ended; carried = made.carried; told = told_stored m made.ended c.result (powered d') a x made.answer c.answer }, r.2)
@@ -300,7 +300,7 @@ module _ {D : Type 0} {blocks : D → List Block} {powered : D → Bool} {raises
       changed (Ok done) rep = inl refl
       changed (Err f) rep =
           inr (λ same.
-          let none : commit_plan m.standing m.candidate ≡ [] = (commit_writes (nodes s) m.standing m.candidate (standing_lawful l) l.candidate-lawful).1 same in
+          let none : commit_plan m.standing m.candidate ≡ [] = (commit_writes (nodes s) m.standing m.candidate (standing_lawful l) l.candidate_lawful).1 same in
           let ok : Err f ≡ Ok tt = ((off_replaces rule-u rule-r rule-w un-r un-w).unchanged d m.standing m.candidate (Err f) d' l.room none rep).0 in
           let z : ◌≡◌ {A = ℕ} 0 1 = cc in omega arith)
 
@@ -370,7 +370,7 @@ module _ {D : Type 0} {blocks : D → List Block} {powered : D → Bool} {raises
   on_goes m d (Lock n k) a x d' l j = (x, j.0, j.1, tied x d' (judged_links (first (lock_refusals m n k)) m (with_held m (locked m.held n k)) a x d d' l (λ e. held_links m d (locked m.held n k) l) j.0 j.1))
   on_goes m d (Unlock n k) a x d' l j = (x, j.0, j.1, tied x d' (judged_links (first (unlock_refusals m n k)) m (with_held m (unlocked m.held n k)) a x d d' l (λ e. held_links m d (unlocked m.held n k) l) j.0 j.1))
   on_goes m d (Edit n o items) a x d' l j = (x, j.0, j.1, tied x d' (edits_link (first (edit_refusals m n o (is_some j.0.items))) m o j.0.items a x d d' l j.0.answer j.1))
-  on_goes m d (Discard n) a x d' l j = (x, j.0, j.1, tied x d' (judged_links (first (discard_refusals m n)) m (with_candidate m m.running) a x d d' l (λ e. candidate_links m d m.running l.running-lawful l) j.0 j.1))
+  on_goes m d (Discard n) a x d' l j = (x, j.0, j.1, tied x d' (judged_links (first (discard_refusals m n)) m (with_candidate m m.running) a x d d' l (λ e. candidate_links m d m.running l.running_lawful l) j.0 j.1))
   on_goes m d (Validate n k) a x d' l j = (x, j.0, j.1, tied x d' (judged_links (or_invalid (first (validate_refusals m n k)) (verdict (contents m k))) m m a x d d' l (λ e. l) j.0 j.1))
   on_goes m d (Get n k room) a x d' l j = (x, j.0, j.1, tied x d' (gets_link (first (get_refusals m n k room)) m k a x d d' l j.0 j.1))
   on_goes m d (Commit n plain_kind timeout persist id) a x d' l j = commit_goes m d a x d' n timeout persist id (or_invalid (first (commit_refusals m n plain_kind timeout persist id)) (verdict m.candidate)) refl l j

@@ -1,4 +1,6 @@
 // An engine that is formatted and performs a list of calls: the call that bears the promise.
+#![tactic(auto)]
+
 ghost use Rattle.std.specs.Prelude.{◌≡◌, min, length, take, drop};
 ghost use Rattle.engine.specs.Seen.{schema_of, validator_of};
 ghost use Rattle.run.specs.Ran.{Chain, Ran};

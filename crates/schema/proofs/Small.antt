@@ -24,13 +24,13 @@ small rows lawful i d within =
     let many = lawful.counted.not_many in
     let few : i + 1 ≤ 16 = omega arith in
     ⊎_elim
-    (λ (is_list : r.kind ≡ 1). let l = node.list is_list in (parent_small rows (i + 1) r few l.place, omega (arith, l.no-reference)))
+    (λ (is_list : r.kind ≡ 1). let l = node.list is_list in (parent_small rows (i + 1) r few l.place, omega (arith, l.no_reference)))
     (λ (other : r.kind ≡ 1 → ⊥).
     let is_leaf : r.kind ≡ 2 = omega (arith, node.kind_least, node.kind_most) in
     let l = node.leaf is_leaf in (
       parent_small rows (i + 1) r few l.place,
       ⊎_elim
-          (λ (above : 0 < r.reference). omega (arith, named_within rows r.reference (l.refers.to-list above)))
+          (λ (above : 0 < r.reference). omega (arith, named_within rows r.reference (l.refers.to_list above)))
           (λ le. omega arith)
           (cases_lt 0 r.reference),
     ))

@@ -4,3 +4,4 @@ pub mod Depth
 pub mod Nodes
 pub mod Checks
 pub mod Paths
+pub mod Equal

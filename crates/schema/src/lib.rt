@@ -2,6 +2,8 @@
 //
 // A schema is handed in as rows of plain numbers. The check gives a typed schema, or the first row that breaks a rule. A
 // path names a node and the keys of the lists around or at it; the schema says whether a path and its value are lawful.
+#![tactic(auto)]
+
 mod check;
 mod nodes;
 mod path;

@@ -1,10 +1,10 @@
 // Which keys and which value a path takes.
 ghost use Rattle.fault.specs.Reports.{at_path, plain};
+ghost use Rattle.schema.specs.Equal.{same_path};
 ghost use Rattle.schema.specs.Nodes.{nodes};
 ghost use Rattle.schema.specs.Paths.{around, entry_answer, fault_number, in_range, inside_keys, key_ranges, list_keys, list_range, path_answer, value_range};
 ghost use Rattle.schema.specs.Rows.{at};
-ghost use Rattle.std.specs.Prelude.{◌≡◌, Decides, nat_eq};
-ghost use Rattle.std.specs.Ordering.{on, eq_of_both};
+ghost use Rattle.std.specs.Prelude.{◌≡◌, Decides};
 ghost use Rattle.std.specs.Cmp.Rules.{comparing};
 ghost use Rattle.std.proofs.Common.{rules};
 
@@ -21,11 +21,14 @@ pub struct Path {
 }
 
 impl PartialEq for Path {
-    ghost eq = { eq_of_both (on (λ v. v.node) nat_eq) (eq_of_both (on (λ v. v.k1) nat_eq) (on (λ v. v.k2) nat_eq)) };
+    ghost eq = { same_path };
 
     ghost laws = { Prim.search (comparing, rules) };
 
-    fn eq(&self, other: &Path) -> bool {
+    fn eq(&self, other: &Path) -> bool
+        ensures computes { result ≡ same_path self.now other.now }
+        ensures decides { Decides result (self.now ≡ other.now) }
+    {
         self.node == other.node && self.k1 == other.k1 && self.k2 == other.k2
     }
 }

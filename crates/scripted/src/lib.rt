@@ -1,4 +1,6 @@
 // Devices for tests: one with a scripted outcome for each access, and one that only loses power. Both keep the power rule.
+#![tactic(auto)]
+
 ghost use Rattle.std.specs.Prelude.{◌≡◌, false, length, drop};
 ghost use Rattle.scripted.specs.Script.{is_done, left_by, outcome_of};
 ghost use Rattle.scripted.specs.Steps.{scripted_blocks, script_left, ScriptedRaises, ScriptedReads, ScriptedWrites};

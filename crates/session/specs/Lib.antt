@@ -4,3 +4,4 @@ pub mod Locks
 pub mod Trials
 pub mod Meaning
 pub mod Laws
+pub mod Equal

@@ -1,4 +1,6 @@
 // Sessions, locks, and the trial: a confirmed commit that waits for its confirmation.
+#![tactic(auto)]
+
 mod event;
 mod laws;
 mod locks;

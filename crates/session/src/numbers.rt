@@ -1,8 +1,8 @@
 // The numbers of sessions and of datastores.
-ghost use Rattle.std.specs.Prelude.{◌≡◌, ◌-◌, ◌<◌, is_some, Decides, nat_eq};
+ghost use Rattle.std.specs.Prelude.{◌≡◌, ◌-◌, ◌<◌, is_some, Decides};
 ghost use Rattle.fault.specs.Codes.{StandsFor};
+ghost use Rattle.session.specs.Equal.{same_session};
 ghost use Rattle.session.specs.Numbers.{datastore_number, is_datastore, is_session, number_of};
-ghost use Rattle.std.specs.Ordering.{on};
 ghost use Rattle.std.specs.Cmp.Rules.{comparing};
 ghost use Rattle.std.proofs.Common.{rules, arith};
 
@@ -39,11 +39,14 @@ impl Session {
 
 // Sessions are equal if their numbers are.
 impl PartialEq for Session {
-    ghost eq = { on (λ v. v.number) nat_eq };
+    ghost eq = { same_session };
 
     ghost laws = { first_of (Prim.search (comparing, rules), Prim.grind (arith, Self.row.coded.inj)) };
 
-    fn eq(&self, other: &Session) -> bool {
+    fn eq(&self, other: &Session) -> bool
+        ensures computes { result ≡ same_session self.now other.now }
+        ensures decides { Decides result (number_of self.now ≡ number_of other.now) }
+    {
         self.number == other.number
     }
 }

@@ -1,6 +1,8 @@
 // One task from start to end: the configuration of a branch switch is read from its image, changed and written again; then
 // three refusals, an edit list under each error option with the verdict on what it leaves, writes of a block while power fails,
 // and a stored configuration that is replaced and recovered while power fails.
+#![tactic(auto)]
+
 mod devices;
 mod edits;
 mod stores;

@@ -2,6 +2,8 @@
 //
 // The standing configuration is the one that a restart gives. Each call makes exactly the accesses of its plan, up to the end or up
 // to the first loss of power; crate `journal` has the plans and their laws. Nothing here allocates.
+#![tactic(auto)]
+
 mod accept;
 mod access;
 mod calls;

@@ -1,5 +1,7 @@
 // Cuts replacements and recoveries of the store at every byte and at every access, and prints how many left the old
 // configuration and how many the new; then each way in which stored blocks are at fault.
+#![tactic(auto)]
+
 mod blocks;
 mod bytes;
 mod edges;

@@ -1,4 +1,6 @@
 // Power that fails after a counted number of byte writes.
+#![tactic(auto)]
+
 ghost use Rattle.std.specs.Prelude.{◌≡◌, true, false, drop};
 ghost use Rattle.supply.specs.Budget.{is_on, cuts_of, first, Raised, Spent};
 

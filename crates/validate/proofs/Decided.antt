@@ -199,16 +199,16 @@ module _ (ns : List Node) (es : List Entry) (p : Path) where
 
   pub crowded_is : Crowded ns es p → crowded ns es p ≡ true
   crowded_is c =
-      ap (crowded_node ns es p) c.is-list
-      ∙ and_from _ _ (place_to c.list.parent c.at_top c.of-list)
+      ap (crowded_node ns es p) c.is_list
+      ∙ and_from _ _ (place_to c.list.parent c.at_top c.of_list)
       (and_from _ _ c.inside (ap (λ m. over m (count_by (in_parent c.list.parent p) es)) c.maximum ∙ lt-ltb _ _ c.many))
 
   list_inside : (l : ListNode) → at ns p.node ≡ Some (list_node l) → held ns es p ≡ held_at es (option_map (λ n. record { node = n; k1 = p.k1; k2 = 0 }) l.parent)
   list_inside l is = ap (λ o. held_at es (around_node p o)) is
 
   pub crowded_keys : Crowded ns es p → KeysOf es p
-  crowded_keys c = go c.list.parent c.at_top (sym (list_inside c.list c.is-list) ∙ c.inside)
+  crowded_keys c = go c.list.parent c.at_top (sym (list_inside c.list c.is_list) ∙ c.inside)
     where
       go : (o : Option ℕ) → (o ≡ None → p.k1 ≡ 0) → held_at es (option_map (λ n. record { node = n; k1 = p.k1; k2 = 0 }) o) ≡ true → KeysOf es p
-      go None top h = inl (top refl, c.of-list)
-      go (Some outer) top h = keys_there es p (record { node = outer; k1 = p.k1; k2 = 0 }) h refl (sym c.of-list)
+      go None top h = inl (top refl, c.of_list)
+      go (Some outer) top h = keys_there es p (record { node = outer; k1 = p.k1; k2 = 0 }) h refl (sym c.of_list)

@@ -1,6 +1,8 @@
 // Validators: what says whether a configuration may run.
 //
 // A validator says yes to a configuration, or no with a rule and a path. What it says depends on the configuration alone.
+#![tactic(auto)]
+
 mod both;
 mod bound;
 mod broken;

@@ -1,4 +1,6 @@
 // Tests of the validators: each rule at its edges, what is told, and which of two validators is asked first.
+#![tactic(auto)]
+
 #[cfg(test)]
 mod history;
 #[cfg(test)]

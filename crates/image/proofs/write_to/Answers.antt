@@ -7,4 +7,4 @@ use Rattle.image.proofs.write_to.Goals as goal
 pub returns : goal.returns
 returns c =
     let long : length c.write_block.new.bytes ≡ c.args.bytes.now.len = search rules in
-    vec_writes 34 (λ b k. bytes_after k b c.args.at c.args.payload) (drop (length c.write_block.new.bytes) c.args.bytes.now.items) c.deref-mut.ensures.value long c.write_block.ensures
+    vec_writes 34 (λ b k. bytes_after k b c.args.at c.args.payload) (drop (length c.write_block.new.bytes) c.args.bytes.now.items) c.deref_mut.ensures.value long c.write_block.ensures

@@ -16,7 +16,7 @@ put_in-requires c =
     let h = sym c.if-puts.ensures in
     let p = judged_passes (nodes schema) (used config) i x.operation x.node (sym x.ensures) in
     let few : length (used config) ≤ 48 = omega (arith, used_length config, config.few) in
-    subst (λ l. length (with_entry l (entry_of i)) ≤ 48) (sym c.retain.ensures.entries-are)
+    subst (λ l. length (with_entry l (entry_of i)) ≤ 48) (sym c.retain.ensures.entries_are)
     (room (nodes schema) schema.nested (used config) x.operation x.node i config.rises h (has_room (nodes schema) (used config) i x.operation x.node p h) few)
 
 pub returns-then-puts : goal.returns-then-puts
@@ -28,7 +28,7 @@ returns-then-puts c =
     let here : c.is_some-here.result ≡ present (used config) i.path = c.is_some-here.ensures ∙ ap is_some c.get.ensures in
     performed (nodes schema) schema.nested (used config) x.operation x.node i _ (sym x.ensures)
     (c.put_in.ensures
-    ∙ ap (λ l. put_in l x.node i c.is_some-here.result) c.retain.ensures.entries-are
+    ∙ ap (λ l. put_in l x.node i c.is_some-here.result) c.retain.ensures.entries_are
     ∙ ap (λ b. put_in (cleared (nodes schema) (used config) x.operation i.path) x.node i b) here
     ∙ changed_puts (nodes schema) (used config) x.operation x.node i (sym c.if-puts.ensures))
 
@@ -38,4 +38,4 @@ returns-else-puts c =
     let config = c.args.config.now in
     let x = c.in_ok-operation in
     performed (nodes schema) schema.nested (used config) x.operation x.node c.args.item _ (sym x.ensures)
-    (c.retain.ensures.entries-are ∙ changed_else (nodes schema) (used config) x.operation x.node c.args.item (sym c.if-puts.ensures))
+    (c.retain.ensures.entries_are ∙ changed_else (nodes schema) (used config) x.operation x.node c.args.item (sym c.if-puts.ensures))

@@ -9,7 +9,7 @@ pub loop-i-preserved : goal.loop-i-preserved
 loop-i-preserved c =
     let nodes = c.loop-i.nodes in
     let i = c.loop-i.i in
-    let inside : i < length nodes = omega (arith, c.requires.counted.not-many) in
+    let inside : i < length nodes = omega (arith, c.requires.counted.not_many) in
     (length-set nodes i _ ∙ c.loop-i.invariant.0, filled_more node_of c.args.rows.now nodes i c.loop-i.invariant.1 _ _ c.loop-i-test.true inside c.node_of.ensures)
 
 pub returns : goal.returns

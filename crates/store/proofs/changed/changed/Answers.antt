@@ -42,7 +42,7 @@ invariant_of-result c =
     let i = c.loop-i in
     let end : i.i ≡ length c.args.old.now = omega arith in
     let all = listing_all i.i c.args.old.now c.args.new.now (take i.count i.blocks) end i.invariant.2 in
-    (i.invariant.1, (omega arith, (ap (rising 26) all ∙ changes_rising c.args.old.now c.args.new.now c.told-old, tt)))
+    record { whole = i.invariant.1; few = omega arith; rises = ap (rising 26) all ∙ changes_rising c.args.old.now c.args.new.now c.told-old }
 
 pub returns : goal.returns
 returns c =

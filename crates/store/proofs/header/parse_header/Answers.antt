@@ -46,7 +46,7 @@ invariant_of-targets c =
     let h = c.args.bytes.now in
     let n = c.from-count.result in
     let b = c.target_bytes-blocks.result in
-    (room h b n c.told-bytes c.from-count.ensures c.target_bytes-blocks.ensures, (c.if-count-gt-HOMES.false, (rises h b n c.told-bytes c.from-count.ensures c.target_bytes-blocks.ensures (sym c.rise.ensures ∙ c.if-not-rise.false), tt)))
+    record { whole = room h b n c.told-bytes c.from-count.ensures c.target_bytes-blocks.ensures; few = c.if-count-gt-HOMES.false; rises = rises h b n c.told-bytes c.from-count.ensures c.target_bytes-blocks.ensures (sym c.rise.ensures ∙ c.if-not-rise.false) }
 
 pub returns-then-eq : goal.returns-then-eq
 returns-then-eq c =

@@ -14,7 +14,7 @@ pub invariant_of-self : goal.invariant_of-self
 invariant_of-self c =
     let p = c.in-Ok.ensures.puts (rises _ c.args.self.now.rises) in
     let few : c.in-Ok.count ≤ 48 = omega (arith, c.in-Ok.ensures.stays.0, c.args.self.now.whole) in
-    (search rules, (few, (rising_from _ p.rising, tt)))
+    record { whole = search rules; few = few; rises = rising_from _ p.rising }
 
 pub returns : goal.returns
 returns c =

@@ -1,7 +1,7 @@
 use Rattle.std.proofs.Common.{◌≡◌, ◌<◌, ◌≤◌, length, sym, ◌∙◌, arith}
 use Rattle.config.proofs.Kept.{kept_rises, retained, turn_no, turn_yes}
 use Rattle.config.proofs.config.Config.retain.Goals as goal
-use Rattle.config.proofs.config.Config.retain.Goals.{then_Keeps, else-keeps}
+use Rattle.config.proofs.config.Config.retain.Goals.{then-keeps, else-keeps}
 
 pub loop-i-preserved : goal.loop-i-preserved
 loop-i-preserved g c =
@@ -9,14 +9,14 @@ loop-i-preserved g c =
     let self = c.args.self.now in
     let inv = c.loop-i.invariant in
     let lt : c.loop-i.i < length c.loop-i.entries = omega (arith, inv.long, c.loop-i-test.true, self.whole, self.few) in
-    elim c.if-keeps.branch [ then_Keeps w ↦ turn_yes f self.entries c.loop-i.entries c.if-keeps.entries c.loop-i.count c.if-keeps.count c.loop-i.i _ inv lt (sym c.keeps.ensures ∙ w.if-keeps.true) w.entries-is w.count-is | else-keeps w ↦ turn_no f self.entries c.loop-i.entries c.if-keeps.entries c.loop-i.count c.if-keeps.count c.loop-i.i _ inv lt (sym c.keeps.ensures ∙ w.if-keeps.false) w.entries-is w.count-is ]
+    elim c.if-keeps.branch [ then-keeps w ↦ turn_yes f self.entries c.loop-i.entries c.if-keeps.entries c.loop-i.count c.if-keeps.count c.loop-i.i _ inv lt (sym c.keeps.ensures ∙ w.if-keeps.true) w.entries-is w.count-is | else-keeps w ↦ turn_no f self.entries c.loop-i.entries c.if-keeps.entries c.loop-i.count c.if-keeps.count c.loop-i.i _ inv lt (sym c.keeps.ensures ∙ w.if-keeps.false) w.entries-is w.count-is ]
 
 pub invariant_of-self : goal.invariant_of-self
 invariant_of-self g c =
     let self = c.args.self.now in
     let inv = c.loop-i.invariant in
     let done : c.loop-i.i ≡ self.count = omega (arith, c.loop-i-test.false, c.loop-i.auto.i-end) in
-    (inv.long ∙ self.whole, (omega (arith, inv.behind, self.few), (kept_rises (g.C.Choice.chosen c.args.choice.now) self c.loop-i.entries c.loop-i.count c.loop-i.i done inv, tt)))
+    record { whole = inv.long ∙ self.whole; few = omega (arith, inv.behind, self.few); rises = kept_rises (g.C.Choice.chosen c.args.choice.now) self c.loop-i.entries c.loop-i.count c.loop-i.i done inv }
 
 pub returns : goal.returns
 returns g c =

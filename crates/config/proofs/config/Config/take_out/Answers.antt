@@ -10,7 +10,7 @@ pub invariant_of-self : goal.invariant_of-self
 invariant_of-self c =
     let few : c.args.self.now.count - 1 ≤ 48 = omega (arith, c.args.self.now.few) in
     let p = taken c.args.self.now c.args.path c.in-Some.entry c.take_out.new.rows c.in-Some.ensures.takes in
-    (search rules, (few, (rising_from _ p.rising, tt)))
+    record { whole = search rules; few = few; rises = rising_from _ p.rising }
 
 pub returns : goal.returns
 returns c =

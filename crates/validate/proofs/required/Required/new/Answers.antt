@@ -37,7 +37,7 @@ pub invariant_of-result : goal.invariant_of-result
 invariant_of-result c =
     let inv = c.loop-record.invariant in
     let bs = c.args.records.now in
-    (inv.1, (inv.2, (ap bounds_lawful (inv.4 ∙ take_all _ bs c.loop-record-test.false) ∙ inv.0, tt)))
+    record { whole = inv.1; few = inv.2; lawful = ap bounds_lawful (inv.4 ∙ take_all _ bs c.loop-record-test.false) ∙ inv.0 }
 
 pub returns : goal.returns
 returns c =
