@@ -3,3 +3,4 @@ pub mod Taken
 pub mod Places
 pub mod Images
 pub mod Kept
+pub mod Equal
