@@ -1,11 +1,10 @@
 // One task from start to end: the configuration of a branch switch is read from its image, changed and written again; then
-// three refusals, an edit list under each error option with the verdict on what it leaves, writes of a block while power fails,
-// and a stored configuration that is replaced and recovered while power fails.
+// three refusals, an edit list under each error option with the verdict on what it leaves, and writes of a block while power
+// fails.
 #![tactic(auto)]
 
 mod devices;
 mod edits;
-mod stores;
 
 use amend::{Amended, Change, amend};
 use config::{Config, Entry};
@@ -130,8 +129,7 @@ fn run<R: Print + AllocGlobal>(rt: &R) -> anyhow::Result<()> {
     change(rt, &schema, config)?;
     refusals(rt, &schema)?;
     edits::show_edits(rt, &schema, config)?;
-    devices::show_devices(rt)?;
-    stores::show_stores(rt, &schema, &config)
+    devices::show_devices(rt)
 }
 
 fn main(rt: HostRuntime) -> anyhow::Result<()> {
