@@ -1,11 +1,11 @@
 -- A change from the steps that it is made of.
-use Rattle.std.proofs.Common.{◌≡◌, ℕ, ◌<◌, ◌≤◌, true, false, List, ◌++◌, length, drop, replicate, is_err, Ok, Err, Option, Result, sym, refl, ap, ◌∙◌, subst, arith}
+use Rattle.std.proofs.Common.{◌≡◌, ℕ, ◌<◌, true, false, List, ◌++◌, length, drop, replicate, is_err, Ok, Err, Option, Result, sym, refl, ap, ◌∙◌, arith}
 use Rattle.std.specs.Result.{result_unwrap_or}
 use Rattle.std.proofs.lemmas.List.{drop-replicate}
 use Rattle.std.proofs.lemmas.Bool.{both_ways}
 use Rattle.schema.specs.Paths.{entry_answer}
 use Rattle.schema.specs.declared.nodes.Node.{Node}
-use Rattle.config.specs.Configs.{found, used, with_entry, without_entry, PutAnswer, TakeAnswer}
+use Rattle.config.specs.Configs.{found, used, without_entry, PutAnswer, TakeAnswer}
 use Rattle.config.specs.Images.{image, Encoded}
 use Rattle.config.specs.declared.config.Config.{Config}
 use Rattle.config.specs.declared.config.Full.{Full}

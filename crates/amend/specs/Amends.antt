@@ -1,5 +1,5 @@
 -- What a change does to a configuration.
-use Rattle.std.specs.Prelude.{◌≡◌, ℕ, ◌-◌, ◌<◌, List, ◌++◌, length, replicate, Ok, Err, Result}
+use Rattle.std.specs.Prelude.{◌≡◌, ◌-◌, ◌<◌, List, ◌++◌, length, replicate, Ok, Err, Result}
 use Rattle.schema.specs.Paths.{entry_answer}
 use Rattle.schema.specs.declared.nodes.Node.{Node}
 use Rattle.config.specs.Configs.{found, used, with_entry, without_entry}

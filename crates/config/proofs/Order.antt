@@ -1,7 +1,7 @@
 -- Entries whose paths rise, by neighbours and by any two places.
-use Rattle.std.proofs.Common.{◌≡◌, ℕ, zero, suc, ◌<◌, ◌≤◌, Bool, true, ◌&&◌, List, [], ◌∷◌, length, get_or, refl, not-suc-le-zero, arith}
+use Rattle.std.proofs.Common.{◌≡◌, ℕ, true, List, [], ◌∷◌, refl, not-suc-le-zero, arith}
 use Rattle.std.proofs.lemmas.Bool.{and_parts, and_from}
-use Rattle.table.specs.Table.{Rising, Greater}
+use Rattle.table.specs.Table.{Rising}
 use Rattle.table.proofs.Order.{Total}
 use Rattle.table.proofs.Rows.{rising_cons, rising_head, rising_tail, greater_cons, greater_far}
 use Rattle.table.specs.Sooner.{sooner_irreflexive, sooner_transitive, sooner_connected}

@@ -1,6 +1,6 @@
 -- A configuration's entries after one was taken out.
-use Rattle.std.proofs.Common.{◌≡◌, ℕ, ◌-◌, min, List, length, take, Some, None, sym, refl, ap, ◌∙◌, subst, arith}
-use Rattle.table.specs.Table.{Rising, TakenOut, lookup}
+use Rattle.std.proofs.Common.{◌≡◌, ℕ, ◌-◌, min, List, length, take, Some, None, sym, refl, subst, arith}
+use Rattle.table.specs.Table.{Rising, TakenOut}
 use Rattle.table.proofs.Rows.{lookup_take, lookup_take_other, without_absent}
 use Rattle.schema.specs.declared.path.Path.{Path}
 use Rattle.config.specs.declared.entry.Entry.{Entry}

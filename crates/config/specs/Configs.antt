@@ -1,5 +1,5 @@
 -- A configuration as the list of its entries, and what it has at each path.
-use Rattle.std.specs.Prelude.{◌≡◌, ℕ, ◌<◌, ◌≤◌, Bool, cond, List, length, take, None, Ok, Err, filter, Option, Result}
+use Rattle.std.specs.Prelude.{◌≡◌, ◌<◌, Bool, cond, List, length, take, None, Ok, Err, filter, Option, Result}
 use Rattle.table.specs.Table.{lookup, with_row, without, LookupPut, LookupTake}
 use Rattle.schema.specs.declared.path.Path.{Path}
 use Rattle.config.specs.declared.entry.Entry.{Entry}

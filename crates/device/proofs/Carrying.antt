@@ -1,10 +1,10 @@
 -- Accesses carried out: how they compose, and what they come to on the blocks of a device that keeps the power rule. Assumes nothing.
-use Rattle.std.proofs.Common.{◌≡◌, ℕ, zero, suc, ◌+◌, ◌-◌, ◌<◌, ◌≤◌, Bool, true, false, ◌⊎◌, List, [], ◌∷◌, ◌++◌, length, get_or, drop, set, Ok, Err, Result, sym, refl, ap, ◌∙◌, inl, inr, add_assoc, add-one, arith, length-set, drop-cons}
+use Rattle.std.proofs.Common.{◌≡◌, ℕ, zero, suc, ◌+◌, ◌-◌, ◌<◌, ◌≤◌, Bool, true, false, ◌⊎◌, List, [], ◌∷◌, ◌++◌, length, get_or, drop, Ok, Err, Result, sym, refl, ap, ◌∙◌, inl, inr, add_assoc, add-one, arith, length-set, drop-cons}
 use lib.Seq.{drop-length}
 use Rattle.device.specs.declared.Block.{Block}
-use Rattle.device.specs.declared.Block.TheVariants.{Good, Damaged}
+use Rattle.device.specs.declared.Block.TheVariants.{Good}
 use Rattle.device.specs.declared.DeviceFault.{DeviceFault}
-use Rattle.device.specs.declared.DeviceFault.TheVariants.{PowerLost, Refused}
+use Rattle.device.specs.declared.DeviceFault.TheVariants.{Refused}
 use Rattle.device.specs.Power.{ReadAnswer, WriteAnswer}
 use Rattle.device.proofs.Facts.{found, wrote, off_answer, off_writes, length_read, length_write, ok_is_err, err_is}
 use Rattle.device.specs.Power as power

@@ -1,5 +1,5 @@
 -- How a device's fault is told.
-use Rattle.std.specs.Prelude.{ℕ, ◌^◌, cond, Some, None, Option, nat_lt}
+use Rattle.std.specs.Prelude.{◌^◌, cond, Some, None, Option, nat_lt}
 use Rattle.fault.specs.Reports.{because, plain}
 use Rattle.fault.specs.declared.Report.{Report}
 use Rattle.device.specs.declared.DeviceFault.{DeviceFault}

@@ -1,8 +1,8 @@
 -- The entries after an item: what is found at every path, and how many there are.
-use Rattle.std.proofs.Common.{◌≡◌, ℕ, ◌+◌, ◌<◌, ◌≤◌, Bool, true, false, cond, not, ◌&&◌, ◌||◌, leb, List, [], ◌∷◌, length, is_some, Some, None, Ok, Err, filter, Option, sym, refl, ap, ◌∙◌, subst, ⊎_elim, arith}
-use Rattle.std.proofs.lemmas.Bool.{and_cases, and_from, and_left, both_ways, cases_Bool, cond_both, cond-false, cond-true, leb-false, not-false, not-true, or_from, or_right}
+use Rattle.std.proofs.Common.{◌≡◌, ◌<◌, ◌≤◌, Bool, true, false, cond, not, ◌&&◌, ◌||◌, List, [], ◌∷◌, length, is_some, Some, None, Ok, Err, filter, Option, sym, refl, ap, ◌∙◌, subst, ⊎_elim, arith}
+use Rattle.std.proofs.lemmas.Bool.{and_from, both_ways, cases_Bool, cond_both, cond-false, cond-true, or_right}
 use Rattle.table.proofs.Rows.{lookup_kept, lookup_put, lookup_put_other, rising_kept, with_length, with_length_present}
-use Rattle.schema.specs.Depth.{two_deep, is_list}
+use Rattle.schema.specs.Depth.{two_deep}
 use Rattle.schema.specs.declared.nodes.Node.{Node}
 use Rattle.schema.specs.declared.path.Path.{Path}
 use Rattle.config.specs.Configs.{found, path_of, with_entry}
@@ -14,8 +14,8 @@ use Rattle.edit.specs.declared.item.Item.{Item}
 use Rattle.edit.specs.declared.item.Operation.{Operation}
 use Rattle.edit.specs.declared.item.Operation.TheVariants.{Merge, Replace, Create, Delete, Remove}
 use Rattle.edit.specs.Applied.{Performed}
-use Rattle.edit.specs.Does.{after_at, changed, cleared, clears, does, done, entry_of, judged, present, put_in, puts, stays, taken_out, target_after, under}
-use Rattle.edit.proofs.Under.{equal_is, equal_self, not_equal, under_self}
+use Rattle.edit.specs.Does.{after_at, changed, cleared, clears, does, done, entry_of, judged, present, put_in, puts, stays, taken_out, under}
+use Rattle.edit.proofs.Under.{equal_is, equal_self, under_self}
 
 -- an operation that does not put clears
 pub clears_unless_puts : (op : Operation) → puts op ≡ false → clears op ≡ true

@@ -1,15 +1,15 @@
 -- An edit list from what its items come to.
-use Rattle.std.proofs.Common.{◌≡◌, ℕ, cond, List, is_some, Some, None, Ok, Err, Result, sym, refl, ap, ◌∙◌, subst, arith}
+use Rattle.std.proofs.Common.{◌≡◌, ℕ, List, None, Ok, Err, sym, ◌∙◌, subst, arith}
 use Rattle.schema.specs.declared.nodes.Node.{Node}
 use Rattle.config.specs.Configs.{used}
 use Rattle.config.specs.declared.config.Config.{Config}
 use Rattle.edit.specs.declared.run.EditFault.{EditFault}
 use Rattle.edit.specs.declared.item.Item.{Item}
 use Rattle.edit.specs.declared.option.ErrorOption.{ErrorOption}
-use Rattle.edit.specs.declared.option.ErrorOption.TheVariants.{Stop, Continue, Rollback}
+use Rattle.edit.specs.declared.option.ErrorOption.TheVariants.{Rollback}
 use Rattle.edit.specs.Does.{does}
 use Rattle.edit.specs.Edited.{Edited, Refused}
-use Rattle.edit.specs.Options.{first_refused, left, through, until, AllDone}
+use Rattle.edit.specs.Options.{first_refused, left, until}
 use Rattle.edit.proofs.Steps.{all_done, none_refused}
 
 never : {A B : Type 0} {x : A} {y : B} → Ok x ≡ Err y → ⊥

@@ -1,5 +1,5 @@
 -- The judgement of an item, step by step.
-use Rattle.std.proofs.Common.{◌≡◌, ℕ, ◌<◌, ◌≤◌, Bool, true, false, cond, not, ◌&&◌, ◌||◌, leb, List, [], ◌∷◌, length, Some, None, Ok, Err, Option, Result, sym, refl, ap, ◌∙◌, subst, ⊎_elim, arith}
+use Rattle.std.proofs.Common.{◌≡◌, ℕ, ◌<◌, Bool, true, false, not, leb, List, [], ◌∷◌, length, Some, None, Ok, Err, Option, Result, sym, refl, ap, ◌∙◌, subst, ⊎_elim, arith}
 use Rattle.std.proofs.lemmas.Bool.{and_from, both_ways, cases_Bool, cond-true, cond-false, leb-false, or_right}
 use Rattle.schema.specs.Paths.{path_answer}
 use Rattle.schema.specs.declared.nodes.Node.{Node}
@@ -12,7 +12,7 @@ use Rattle.edit.specs.declared.faults.ItemFault.TheVariants.{Operation as no_ope
 use Rattle.edit.specs.declared.item.Item.{Item}
 use Rattle.edit.specs.declared.item.Operation.{Operation}
 use Rattle.edit.specs.Numbers.{operation_at}
-use Rattle.edit.specs.Does.{checked, first_of, judged, judged_operation, judged_path, judged_value, moment, needs_absent, needs_present, present, puts, value_lawful}
+use Rattle.edit.specs.Does.{checked, first_of, judged, judged_operation, judged_path, judged_value, moment, needs_present, present, puts, value_lawful}
 
 module _ (ns : List Node) (es : List Entry) (i : Item) where
   pub no_such : None ≡ operation_at i.operation → Err no_operation ≡ judged ns es i

@@ -1,6 +1,6 @@
 -- The laws of edits.
-use Rattle.std.proofs.Common.{◌≡◌, ℕ, ◌≤◌, Bool, true, false, cond, List, [], ◌∷◌, length, is_some, Ok, Err, Result, sym, refl, ap, ◌∙◌, subst, ⊎_elim, arith}
-use Rattle.std.proofs.lemmas.Bool.{cases_Bool, cond_both}
+use Rattle.std.proofs.Common.{◌≡◌, ℕ, ◌≤◌, true, List, [], ◌∷◌, length, is_some, Ok, Err, Result, sym, refl, ap, subst, arith}
+use Rattle.std.proofs.lemmas.Bool.{cond_both}
 use Rattle.encoding.specs.declared.form.Form.{Form}
 use Rattle.encoding.proofs.Lists.{counted_same}
 use Rattle.table.proofs.Rows.{rising_kept, rising_with}
@@ -19,7 +19,7 @@ use Rattle.edit.specs.declared.item.Operation.{Operation}
 use Rattle.schema.specs.declared.typed.Schema.{Schema}
 use Rattle.edit.specs.declared.option.ErrorOption.{ErrorOption}
 use Rattle.edit.specs.declared.option.ErrorOption.TheVariants.{Stop, Continue, Rollback}
-use Rattle.edit.specs.Does.{changed, cleared, does, done, entry_of, judged, present, puts, stays, taken_out}
+use Rattle.edit.specs.Does.{changed, cleared, does, done, entry_of, judged, present, puts, stays}
 use Rattle.edit.specs.Items.{item_form}
 use Rattle.edit.specs.Laws.{ItemsDecide, ListsReadBack, OptionsOf, StaysLawful}
 use Rattle.edit.specs.Lists.{items}

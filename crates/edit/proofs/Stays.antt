@@ -1,9 +1,9 @@
 -- A lawful configuration stays lawful.
-use Rattle.std.proofs.Common.{◌≡◌, ℕ, ◌<◌, ◌≤◌, Bool, true, false, cond, not, ◌&&◌, ◌||◌, List, length, get_or, is_some, Some, None, Ok, Option, sym, refl, ap, ◌∙◌, subst, ⊎_elim, arith}
-use Rattle.std.proofs.lemmas.Bool.{and_from, and_left, and_parts, both_ways, cases_Bool, cond_both, cond-false, cond-true, or_left, or_from, and_right}
+use Rattle.std.proofs.Common.{◌≡◌, ℕ, ◌<◌, ◌≤◌, true, false, not, ◌&&◌, ◌||◌, List, length, get_or, is_some, Some, None, Ok, Option, sym, refl, ap, ◌∙◌, subst, ⊎_elim}
+use Rattle.std.proofs.lemmas.Bool.{and_from, and_left, and_parts, both_ways, cases_Bool, cond-false, cond-true, or_left, or_from, and_right}
 use Rattle.table.proofs.Rows.{found_key, found_place, place_found}
 use Rattle.schema.specs.Depth.{two_deep}
-use Rattle.schema.specs.Paths.{around, entry_answer, in_range, path_answer, value_answer, value_range}
+use Rattle.schema.specs.Paths.{around, entry_answer, value_answer}
 use Rattle.schema.specs.declared.nodes.Node.{Node}
 use Rattle.schema.specs.declared.path.Path.{Path}
 use Rattle.config.specs.Configs.{found, path_of}
@@ -12,9 +12,8 @@ use Rattle.config.specs.Order.{equal_paths, path_sooner, rising}
 use Rattle.config.specs.declared.entry.Entry.{Entry}
 use Rattle.config.proofs.Order.{total, rises}
 use Rattle.edit.specs.declared.item.Item.{Item}
-use Rattle.edit.specs.declared.item.Operation.{Operation}
 use Rattle.edit.specs.Applied.{Performed}
-use Rattle.edit.specs.Does.{after_at, clears, entry_of, present, puts, stays, taken_out, target_after, under}
+use Rattle.edit.specs.Does.{clears, entry_of, present, puts, stays, taken_out, target_after, under}
 use Rattle.edit.proofs.Under.{around_not_under, around_other, around_outside, equal_is, equal_self, never_some, not_equal, under_one}
 use Rattle.edit.proofs.Changed.{clears_unless_puts}
 use Rattle.edit.proofs.Judged.{Passed, has_list, judged_passes}

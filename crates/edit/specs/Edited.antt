@@ -1,5 +1,5 @@
 -- What an edit list on a configuration answers and leaves.
-use Rattle.std.specs.Prelude.{◌≡◌, ℕ, ◌-◌, List, Some, None, Ok, Err, Result, slice_index_or}
+use Rattle.std.specs.Prelude.{◌≡◌, ◌-◌, List, Some, None, Ok, Err, Result, slice_index_or}
 use Rattle.fault.specs.Reports.{at_path, in_item, plain}
 use Rattle.fault.specs.declared.Report.{Report}
 use Rattle.schema.specs.declared.nodes.Node.{Node}

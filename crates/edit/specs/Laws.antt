@@ -1,5 +1,5 @@
 -- Edits in the subject's own words.
-use Rattle.std.specs.Prelude.{◌≡◌, ℕ, ◌≤◌, List, length, Ok, Err, Result}
+use Rattle.std.specs.Prelude.{◌≡◌, ◌≤◌, List, length, Ok, Err, Result}
 use Rattle.schema.specs.Nodes.{nodes}
 use Rattle.schema.specs.declared.typed.Schema.{Schema}
 use Rattle.config.specs.Configs.{used}

@@ -1,11 +1,10 @@
 -- Counted lists, record by record.
-use Rattle.std.proofs.Common.{◌≡◌, ℕ, ◌+◌, ◌-◌, ◌*◌, ◌<◌, ◌≤◌, List, [], ◌∷◌, ◌++◌, length, get_or, take, drop, set, sym, refl, ap, ◌∙◌, subst, not-suc-le-zero, arith, take-add}
+use Rattle.std.proofs.Common.{◌≡◌, ℕ, ◌+◌, ◌-◌, ◌*◌, ◌<◌, ◌≤◌, List, [], ◌∷◌, ◌++◌, length, get_or, take, drop, set, sym, refl, ap, ◌∙◌, not-suc-le-zero, arith, take-add}
 use borrow.Rule.Slice.PartMut.{put_mid}
 use Rattle.std.specs.List.{flat_map}
 use Rattle.std.proofs.lemmas.List.{append_assoc, take-append-drop, take_at, drop_at, drop_more, drop-drop, drop-set-lt, take_more, take_more_set, take_all, flat_map_more, length-take-le, length-append}
 use Rattle.std.proofs.lemmas.Slice.{take-put_mid, drop-put_mid}
 use Rattle.encoding.specs.declared.form.Form.{Form}
-use Rattle.encoding.specs.Forms.{form_bytes}
 use Rattle.encoding.specs.Counts.{slot_bytes, record_bytes, counted}
 use Rattle.encoding.proofs.Words.{form_same}
 

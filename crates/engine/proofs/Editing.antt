@@ -1,19 +1,17 @@
 -- An edit by the parts of its call.
-use Rattle.std.proofs.Common.{◌≡◌, ℕ, ◌-◌, ◌≤◌, Bool, true, false, cond, not, ◌&&◌, eqb, List, length, get_or, take, is_some, is_ok, Some, None, Ok, Err, Option, Result, sym, refl, ap, ◌∙◌, subst, arith}
+use Rattle.std.proofs.Common.{◌≡◌, ℕ, ◌-◌, ◌≤◌, Bool, true, false, cond, not, ◌&&◌, eqb, List, length, get_or, is_some, is_ok, Some, None, Ok, Err, Option, Result, sym, refl, ap, ◌∙◌, subst, arith}
 use Rattle.std.proofs.lemmas.List.{length-take-le}
 use Rattle.std.proofs.lemmas.Bool.{and_parts, eqb-true}
-use Rattle.schema.specs.Nodes.{nodes}
 use Rattle.schema.specs.declared.nodes.Node.{Node}
 use Rattle.schema.specs.declared.path.Path.{Path}
 use Rattle.schema.specs.declared.typed.Schema.{Schema}
 use Rattle.schema.specs.declared.typed.SchemaFault.{SchemaFault}
 use Rattle.config.specs.Configs.{used}
 use Rattle.config.specs.declared.config.Config.{Config}
-use Rattle.config.specs.declared.entry.Entry.{Entry}
 use Rattle.edit.specs.Does.{does}
 use Rattle.edit.specs.Edited.{Edited}
 use Rattle.edit.specs.Lists.{ListRead, items}
-use Rattle.edit.specs.Options.{option_number, first_refused, kept, left}
+use Rattle.edit.specs.Options.{option_number, first_refused, kept}
 use Rattle.edit.specs.declared.faults.ItemFault.{ItemFault}
 use Rattle.edit.specs.declared.held.EditList.{EditList}
 use Rattle.edit.specs.declared.item.Item.{Item}
@@ -22,13 +20,13 @@ use Rattle.edit.specs.declared.option.ErrorOption.{ErrorOption}
 use Rattle.edit.specs.declared.option.ErrorOption.TheVariants.{Stop, Continue, Rollback}
 use Rattle.edit.specs.declared.run.EditFault.{EditFault}
 use Rattle.calls.specs.declared.call.Answer.{Answer}
-use Rattle.calls.specs.declared.call.Answer.TheVariants.{Done, Refused}
+use Rattle.calls.specs.declared.call.Answer.TheVariants.{Refused}
 use Rattle.calls.specs.declared.faults.EngineFault.{EngineFault}
 use Rattle.calls.specs.declared.faults.EngineFault.TheVariants.{Item as at_item, Plain}
 use Rattle.calls.specs.declared.faults.Refusal.TheVariants.{EditList as no_list, SessionNumber, OptionNumber, EngineOff}
 use Rattle.session.specs.Numbers.{is_session}
 use Rattle.model.specs.Acts.{nodes_of}
-use Rattle.model.specs.Model.{Model, with_candidate}
+use Rattle.model.specs.Model.{Model}
 use Rattle.model.specs.Refusals.{first, option_at, edit_refusals}
 use Rattle.model.specs.Steps.{ReadAs, Edits, EditsItems, EditsUnless, edit_answer, no_item}
 use Rattle.model.proofs.Tables.{not_false}

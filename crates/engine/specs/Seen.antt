@@ -1,5 +1,5 @@
 -- What an engine means: the model that it stands for, and its device, validator and schema.
-use Rattle.std.specs.Prelude.{◌≡◌, Bool, ◌&&◌, List, is_ok, Result}
+use Rattle.std.specs.Prelude.{Bool, ◌&&◌, is_ok, Result}
 use Rattle.schema.specs.declared.typed.Schema.{Schema}
 use Rattle.schema.specs.declared.typed.SchemaFault.{SchemaFault}
 use Rattle.config.specs.Configs.{used}

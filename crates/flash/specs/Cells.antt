@@ -1,17 +1,16 @@
 -- What byte writes leave in a cell, and in the blocks. Assumes nothing.
-use Rattle.std.specs.Prelude.{◌≡◌, ℕ, zero, suc, ◌+◌, ◌-◌, ◌*◌, ◌/◌, ◌%◌, ◌^◌, ◌<◌, ◌≤◌, ◌≢◌, ◌⊎◌, List, [], ◌∷◌, ◌++◌, length, get_or, take, drop, set, bit_and, slice_index, slice_index_or, slice_set, refl}
-use Rattle.std.proofs.Common.{sym, ap, subst, ◌∙◌, inl, inr, ⊎_elim, arith, length-append, length-take, length-drop, length-set}
+use Rattle.std.specs.Prelude.{◌≡◌, ℕ, zero, suc, ◌+◌, ◌-◌, ◌*◌, ◌%◌, ◌<◌, ◌≤◌, ◌≢◌, ◌⊎◌, List, [], ◌∷◌, ◌++◌, length, get_or, take, drop, set, bit_and, slice_index, slice_index_or, slice_set, refl}
+use Rattle.std.proofs.Common.{sym, ap, ◌∙◌, inl, inr, ⊎_elim, arith, length-append, length-set}
 use Rattle.std.specs.Int.Bits.{and_zero_r}
-use Rattle.std.proofs.lemmas.List.{drop_at, same_lists, get_or_append_left, get_or-append_right, get_or-take, get_or-drop, length-take-le, get_or-set_same, get_or-set_other, take_all, take-append-le, append_assoc, length_push, ext_get_or}
+use Rattle.std.proofs.lemmas.List.{get_or-take, length-take-le, get_or-set_same, get_or-set_other, take_all, take-append-le, append_assoc, length_push, ext_get_or}
 use Rattle.std.proofs.lemmas.Nat.{and_mask, and_comm}
 use Rattle.std.proofs.ByRecursion.{All-append, All-take}
-use Rattle.std.proofs.lemmas.Bool.{eq-eqb, ne_eqb, cond-true, cond-false, cases_eq, cases_lt}
+use Rattle.std.proofs.lemmas.Bool.{eq-eqb, ne_eqb, cond-true, cond-false, cases_eq}
 use Rattle.std.specs.List.{AllByRecursion as All}
-use Rattle.device.specs.declared.Block.{Block}
 use Rattle.device.specs.declared.Block.TheVariants.{Good, Damaged}
 use Rattle.supply.proofs.Cells.{blocks_spliced, cell_here, outside, length_spliced}
 use Rattle.flash.specs.Cell.{cell, good, content, blocks_of, ByteWrite, erasing, programming, one_done, all_done, erases_from, programs_from, steps, cell_after, bytes_after, EveryCut, Bytewise, InOrder}
-use Rattle.flash.specs.Running.{done_append, take_over}
+use Rattle.flash.specs.Running.{done_append}
 
 -- the byte that a byte write is to
 abbrev place : ByteWrite → ℕ

@@ -1,6 +1,6 @@
 -- Byte writes one after the other. Assumes nothing.
 use Rattle.std.specs.Prelude.{◌≡◌, ℕ, zero, suc, ◌+◌, ◌-◌, ◌<◌, ◌≤◌, Bool, true, false, List, [], ◌∷◌, ◌++◌, length, take, drop, slice_index, refl}
-use Rattle.std.proofs.Common.{sym, ap, subst, ◌∙◌, arith, zero-add, suc-add, add-one, length-append}
+use Rattle.std.proofs.Common.{sym, ap, subst, ◌∙◌, arith, zero-add, suc-add, length-append}
 use Rattle.std.proofs.lemmas.List.{drop_more, drop_all, take_all, take-append-le}
 use Rattle.supply.specs.Budget.{is_on, left_of, allowed, Spent}
 use Rattle.supply.specs.declared.Supply.{Supply}

@@ -1,10 +1,10 @@
 -- One byte write more, none yet, and all of them. Assumes nothing.
-use Rattle.std.proofs.Common.{◌≡◌, ℕ, ◌+◌, ◌<◌, ◌≤◌, Bool, true, false, List, length, get_or, set, sym, refl, ap, ◌∙◌, zero-add, arith, length-append, length-drop, length-take}
+use Rattle.std.proofs.Common.{◌≡◌, ℕ, ◌+◌, ◌<◌, true, false, List, length, get_or, set, sym, refl, ap, ◌∙◌, zero-add, arith, length-append, length-drop, length-take}
 use Rattle.std.proofs.lemmas.List.Edits.{paste_more}
-use Rattle.supply.specs.Budget.{is_on, left_of, allowed, Spent}
+use Rattle.supply.specs.Budget.{is_on, Spent}
 use Rattle.supply.specs.declared.Supply.{Supply}
 use Rattle.supply.proofs.Spending.{all_done, spent_none, spent_then, spent_cut, cut_at}
-use Rattle.image.specs.Bytes.{written, Underway, Ended, Goes}
+use Rattle.image.specs.Bytes.{written, Underway, Ended}
 
 written_more : (k : ℕ) (new old : List ℕ) → k < length new → k < length old → set (written k new old) k (get_or new k 0) ≡ written (k + 1) new old
 written_more k new old h l =

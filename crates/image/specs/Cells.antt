@@ -1,9 +1,8 @@
 -- What byte writes leave in a cell, and in the blocks. Assumes nothing.
-use Rattle.std.specs.Prelude.{◌≡◌, ℕ, ◌+◌, ◌-◌, ◌*◌, ◌/◌, ◌<◌, ◌≤◌, ◌⊎◌, List, [], ◌∷◌, ◌++◌, length, get_or, take, drop, set, ◌≢◌, slice_index, slice_index_or, slice_set, refl}
-use Rattle.std.proofs.Common.{sym, ap, ◌∙◌, inl, inr, ⊎_elim, arith, length-append, length-take, length-drop, length-set}
-use Rattle.std.proofs.lemmas.List.{append-nil, drop_at, same_lists, get_or_append_left, get_or-append_right, get_or-take, get_or-drop, take_all, drop_all, take_at, get_or_push, length_push, length-take-le, get_or-set_same, get_or-set_other}
-use Rattle.std.proofs.lemmas.Bool.{eq-eqb, ne_eqb, cond-true, cond-false, cases_eq, cases_lt}
-use Rattle.device.specs.declared.Block.{Block}
+use Rattle.std.specs.Prelude.{◌≡◌, ℕ, ◌+◌, ◌-◌, ◌*◌, ◌<◌, ◌≤◌, List, [], ◌∷◌, ◌++◌, length, get_or, take, drop, set, ◌≢◌, slice_index, slice_index_or, slice_set, refl}
+use Rattle.std.proofs.Common.{sym, ap, ◌∙◌, inl, ⊎_elim, arith, length-append, length-take, length-drop}
+use Rattle.std.proofs.lemmas.List.{append-nil, same_lists, get_or_append_left, get_or-append_right, get_or-take, get_or-drop, take_all, drop_all, take_at, get_or_push, length_push, length-take-le}
+use Rattle.std.proofs.lemmas.Bool.{eq-eqb, ne_eqb, cond-true, cond-false, cases_lt}
 use Rattle.supply.proofs.Cells.{blocks_spliced, inside, outside, length_spliced}
 use Rattle.device.specs.declared.Block.TheVariants.{Good, Damaged}
 use Rattle.image.specs.Bytes.{written}

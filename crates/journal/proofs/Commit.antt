@@ -1,5 +1,5 @@
 -- A commit that is cut off is stored to the old home blocks or to the new.
-use Rattle.std.proofs.Common.{◌≡◌, ℕ, ◌+◌, ◌<◌, ◌≤◌, Bool, true, false, cond, ◌⊎◌, List, [], ◌∷◌, ◌++◌, map, length, get_or, set, Some, None, Ok, Err, Option, Result, sym, refl, ap, ◌∙◌, subst, inl, inr, arith, length-set, get_or-set_other, get_or-set_same}
+use Rattle.std.proofs.Common.{◌≡◌, ℕ, ◌+◌, ◌<◌, ◌≤◌, Bool, true, false, cond, ◌⊎◌, List, [], ◌∷◌, ◌++◌, length, get_or, set, Ok, sym, refl, ap, ◌∙◌, subst, inl, inr, arith, length-set, get_or-set_other, get_or-set_same}
 use lib.ListN.{length-map}
 use Rattle.std.proofs.lemmas.Slice.Eq.{bytes_eq-Decides}
 use Rattle.std.specs.Str.{bytes_eq}
@@ -7,8 +7,8 @@ use Rattle.device.specs.declared.Block.{Block}
 use Rattle.device.specs.declared.Block.TheVariants.{Good, Damaged}
 use Rattle.journal.proofs.Plan.{Cut, written_out}
 use Rattle.journal.specs.Layout.{Pages, header_of}
-use Rattle.journal.specs.Plans.{Write, run_from, closed, changes, targets, pages, records, header_write, journalled, commit_plan}
-use Rattle.journal.specs.Restart.{read_run, homes, with_records, by_targets, by_header, pending, homes_after, stored, Quiet}
+use Rattle.journal.specs.Plans.{Write, run_from, closed, changes, targets, pages, records, header_write}
+use Rattle.journal.specs.Restart.{read_run, homes, with_records, by_targets, by_header, pending, homes_after, stored}
 use Rattle.journal.proofs.Frame.{Rises, Reached, torn_reached, done_reached, same_length, frame, split, written_out_both, none, one, apart_below, apart_above, rises_sooner, run_rises, failed_at}
 use Rattle.journal.proofs.Found.{Holds, holds_read, read_holds, same_run, header_reads, few, rises_rising, paired_parts}
 use Rattle.journal.proofs.Repair.{IdlePages, homes_set, quiet_restored, pending_recovers, pending_finishes}

@@ -1,5 +1,5 @@
 -- What a restart reads, by the blocks that it looks at.
-use Rattle.std.proofs.Common.{◌≡◌, ℕ, zero, suc, ◌+◌, ◌-◌, ◌<◌, ◌≤◌, Bool, true, false, cond, ◌&&◌, ltb, leb, ◌⊎◌, List, [], ◌∷◌, ◌++◌, map, length, get_or, take, set, replicate, Some, None, Ok, Err, Option, Result, sym, refl, ap, ◌∙◌, subst, inl, inr, arith, length-append}
+use Rattle.std.proofs.Common.{◌≡◌, ℕ, zero, suc, ◌+◌, ◌-◌, ◌<◌, ◌≤◌, Bool, true, false, cond, ◌&&◌, ltb, leb, ◌⊎◌, List, [], ◌∷◌, length, get_or, replicate, Some, None, Ok, Err, Option, Result, sym, refl, ap, ◌∙◌, subst, inl, inr, arith, length-append}
 use lib.ListN.{length-replicate}
 use lib.Seq.{take-append_seam}
 use Rattle.std.proofs.lemmas.Bool.{leb-true, ltb-true, le-leb, lt-ltb, and_parts, and_from}
@@ -9,7 +9,7 @@ use Rattle.device.specs.declared.Block.{Block}
 use Rattle.device.specs.declared.Block.TheVariants.{Good, Damaged}
 use Rattle.journal.specs.Layout.{Pages, header_of, rising, named, parse}
 use Rattle.journal.specs.Plans.{Write, targets, pages}
-use Rattle.journal.specs.Restart.{with_first, read_run, homes, paired, with_records, by_targets, by_header, pending}
+use Rattle.journal.specs.Restart.{with_first, read_run, paired, with_records, by_targets, by_header, pending}
 use Rattle.journal.proofs.Frame.{Rises}
 
 -- a run of blocks that are good, with these bytes

@@ -3,7 +3,7 @@ use Rattle.std.proofs.Common.{◌≡◌, ℕ, ◌+◌, ◌<◌, ◌≤◌, ◌�
 use lib.Seq.{set-get_or}
 use Rattle.device.specs.declared.Block.{Block}
 use Rattle.device.specs.declared.Block.TheVariants.{Good, Damaged}
-use Rattle.device.specs.Power.{Left, before, written, torn}
+use Rattle.device.specs.Power.{before, written, torn}
 use Rattle.journal.specs.Plans.{Write, run_from}
 use Rattle.journal.proofs.Plan.{Cut, here, later, written_out}
 

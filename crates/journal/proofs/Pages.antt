@@ -1,13 +1,11 @@
 -- The home blocks of a configuration, and the bytes of its image in them.
-use Rattle.std.proofs.Common.{◌≡◌, ℕ, zero, suc, ◌+◌, ◌-◌, ◌*◌, ◌<◌, ◌≤◌, List, [], ◌∷◌, ◌++◌, length, get_or, take, drop, replicate, sym, refl, ap, ◌∙◌, subst, arith, length-append}
-use lib.ListN.{length-replicate, replicate-append-replicate}
+use Rattle.std.proofs.Common.{◌≡◌, ℕ, zero, suc, ◌+◌, ◌-◌, ◌*◌, ◌<◌, ◌≤◌, List, [], ◌∷◌, ◌++◌, length, get_or, take, drop, sym, refl, ap, ◌∙◌, arith}
+use lib.ListN.{replicate-append-replicate}
 use Rattle.std.specs.List.{flat_map}
-use Rattle.std.proofs.lemmas.List.{append_assoc, take_at, drop_at, drop-drop}
+use Rattle.std.proofs.lemmas.List.{take_at, drop_at, drop-drop}
 use Rattle.encoding.specs.Counts.{counted}
-use Rattle.schema.specs.declared.nodes.Node.{Node}
 use Rattle.config.specs.declared.entry.Entry.{Entry}
 use Rattle.config.specs.Images.{image}
-use Rattle.config.specs.Lawful.{Lawful}
 use Rattle.config.proofs.Images.{image_same, length_image}
 use Rattle.journal.specs.Layout.{Pages, zeros, entry_bytes, entry_pages, home_pages}
 use Rattle.journal.specs.Laws.{HomesDecide}

@@ -1,5 +1,5 @@
 -- Plans of block writes: what they come to, and where power may fail in them.
-use Rattle.std.proofs.Common.{◌≡◌, ℕ, ◌+◌, ◌<◌, ◌≤◌, List, [], ◌∷◌, ◌++◌, length, get_or, set, refl, ap}
+use Rattle.std.proofs.Common.{◌≡◌, ℕ, List, [], ◌∷◌, ◌++◌, get_or, set, refl, ap}
 use Rattle.device.specs.declared.Block.{Block}
 use Rattle.device.specs.declared.Block.TheVariants.{Good, Damaged}
 use Rattle.device.specs.Power.{Left}

@@ -1,20 +1,20 @@
 -- The laws of the journal, over configurations.
-use Rattle.std.proofs.Common.{◌≡◌, ℕ, zero, suc, ◌+◌, ◌<◌, ◌≤◌, Bool, true, false, cond, ◌⊎◌, List, [], ◌∷◌, ◌++◌, length, get_or, set, Some, None, Ok, Err, Option, Result, sym, refl, ap, ◌∙◌, subst, inl, inr, arith, length-set, get_or-set_same}
+use Rattle.std.proofs.Common.{◌≡◌, ℕ, zero, suc, ◌+◌, ◌≤◌, Bool, true, false, cond, List, [], ◌∷◌, ◌++◌, length, get_or, set, Some, None, Ok, Err, Option, Result, sym, refl, ap, ◌∙◌, subst, inr, arith, length-set, get_or-set_same}
 use lib.ListN.{length-map}
 use Rattle.std.proofs.lemmas.Slice.Eq.{bytes_eq-Decides}
 use Rattle.std.specs.Str.{bytes_eq}
 use Rattle.device.specs.declared.Block.{Block}
 use Rattle.device.specs.declared.Block.TheVariants.{Good, Damaged}
-use Rattle.device.specs.Accesses.{Access, read, write}
-use Rattle.device.specs.View.{Torn, after, Within}
+use Rattle.device.specs.Accesses.{Access}
+use Rattle.device.specs.View.{after, Within}
 use Rattle.device.proofs.Carrying.{length_torn, within_append}
 use Rattle.schema.specs.declared.nodes.Node.{Node}
 use Rattle.config.specs.Lawful.{Lawful}
 use Rattle.config.specs.declared.entry.Entry.{Entry}
 use Rattle.journal.specs.Layout.{Pages, header_of, home_pages, parse}
 use Rattle.journal.specs.Plans.{Write, as_writes, run_from, empty_header, format_plan, changes, changed, targets, pages, records, header_write, closed, journalled, commit_plan}
-use Rattle.journal.specs.Restart.{read_run, homes, pending, stored, Accepted, Judged, Restores, reads_until, unless_damaged, target_reads, record_reads, repairs, restart_plan, Quiet, Idle}
-use Rattle.journal.specs.Laws.{HeaderReads, HeaderAlone, RestoresOnce, IdleRestores, Recovered, kept, moved, CommitRecovers, CommitDecides, CommitFinishes, CommitWrites, FormatFinishes, RepairRecovers, RepairFinishes, Restarts, none, again, RestartsKeep, PlansWithin}
+use Rattle.journal.specs.Restart.{read_run, pending, stored, Accepted, Judged, Restores, reads_until, unless_damaged, target_reads, record_reads, repairs, restart_plan, Idle}
+use Rattle.journal.specs.Laws.{HeaderReads, HeaderAlone, RestoresOnce, IdleRestores, Recovered, kept, moved, CommitRecovers, CommitDecides, CommitFinishes, CommitWrites, FormatFinishes, RepairRecovers, RepairFinishes, none, again, RestartsKeep, PlansWithin}
 use Rattle.journal.proofs.Plan.{Cut, cut_of, written_out, as_writes_append}
 use Rattle.journal.proofs.Frame.{Rises, Reached, torn_reached, done_reached, same_length, frame, written_out_both, run_rises, apart_below}
 use Rattle.journal.proofs.Frame as plan
@@ -23,7 +23,7 @@ use Rattle.journal.proofs.Repair.{IdlePages, homes_set, quiet_restored}
 use Rattle.journal.proofs.Commit.{FoundPages, changes_rise, changes_done, run_done, early, late, cut_off, finished}
 use Rattle.journal.proofs.Commit as commit
 use Rattle.journal.proofs.Pages.{length_homes, homes_same}
-use Rattle.journal.proofs.Restarting.{stored_kept, stored_finishes, restarted}
+use Rattle.journal.proofs.Restarting.{stored_kept, stored_finishes}
 
 pub headers_read : HeaderReads
 headers_read ts r = (header_length ts (few 26 ts (omega arith) r), header_reads ts r)

@@ -1,12 +1,12 @@
 -- A restart that is cut off leaves what it found to the next one.
-use Rattle.std.proofs.Common.{◌≡◌, ℕ, ◌+◌, ◌<◌, ◌≤◌, ◌⊎◌, List, [], ◌∷◌, ◌++◌, length, get_or, set, Some, None, Ok, Err, Option, Result, sym, refl, ap, ◌∙◌, subst, inl, inr, arith, length-set, get_or-set_other, get_or-set_same}
+use Rattle.std.proofs.Common.{◌≡◌, ℕ, ◌<◌, ◌≤◌, List, [], ◌∷◌, length, set, Ok, sym, refl, ap, ◌∙◌, subst, inl, inr, arith, length-set, get_or-set_other, get_or-set_same}
 use Rattle.device.specs.declared.Block.{Block}
 use Rattle.device.specs.declared.Block.TheVariants.{Good, Damaged}
 use Rattle.journal.proofs.Plan.{Cut, written_out}
-use Rattle.journal.specs.Layout.{Pages, header_of, parse}
+use Rattle.journal.specs.Layout.{Pages, header_of}
 use Rattle.journal.specs.Plans.{Write, closed}
 use Rattle.journal.specs.Restart.{read_run, homes, by_targets, by_header, pending, homes_after, stored, Quiet}
-use Rattle.journal.proofs.Frame.{Rises, Reached, torn_reached, done_reached, same_length, frame, redo, split, written_out_both, none, one, apart_below}
+use Rattle.journal.proofs.Frame.{Reached, torn_reached, done_reached, same_length, frame, redo, split, written_out_both, none, one, apart_below}
 use Rattle.journal.proofs.Found.{same_run, same_pending, pending_rises, pending_none, header_reads}
 
 -- nothing is journalled, and the home blocks have these bytes

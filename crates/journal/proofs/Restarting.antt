@@ -1,5 +1,5 @@
 -- Restarts that are cut off, and restarts that are carried out, reads and writes together.
-use Rattle.std.proofs.Common.{◌≡◌, ℕ, zero, suc, ◌+◌, ◌<◌, ◌≤◌, ◌⊎◌, List, [], ◌∷◌, ◌++◌, length, get_or, set, Some, None, Ok, Err, Option, Result, sym, refl, ap, ◌∙◌, subst, inl, inr, arith, length-set, get_or-set_same}
+use Rattle.std.proofs.Common.{◌≡◌, ℕ, zero, suc, ◌+◌, ◌≤◌, List, [], ◌∷◌, length, get_or, set, Some, None, Ok, Err, Option, Result, sym, refl, ap, ◌∙◌, subst, inl, inr, arith, get_or-set_same}
 use Rattle.device.specs.declared.Block.{Block}
 use Rattle.device.specs.declared.Block.TheVariants.{Good, Damaged}
 use Rattle.device.specs.Accesses.{Access, read, write}
@@ -8,9 +8,9 @@ use Rattle.device.specs.View as view
 use Rattle.device.proofs.Carrying.{after_append, torn_cases}
 use Rattle.journal.specs.Layout.{Pages, header_of, parse}
 use Rattle.journal.specs.Plans.{Write, as_writes, closed, empty_header}
-use Rattle.journal.specs.Restart.{homes, homes_after, pending, stored, unless_damaged, reads_until, target_reads, record_reads, repairs, restart_plan, Quiet}
+use Rattle.journal.specs.Restart.{homes, homes_after, pending, stored, unless_damaged, reads_until, target_reads, record_reads, repairs, restart_plan}
 use Rattle.journal.proofs.Plan.{written_out, cut_of}
-use Rattle.journal.proofs.Frame.{written_out_both, done_reached, same_length}
+use Rattle.journal.proofs.Frame.{written_out_both}
 use Rattle.journal.proofs.Repair.{IdlePages, homes_set, quiet_restored, pending_recovers, pending_finishes, wide}
 
 -- accesses that are all reads

@@ -1,7 +1,6 @@
 -- For code over home blocks, headers and plans: what one turn of a loop adds.
-use Rattle.std.proofs.Common.{◌≡◌, ℕ, zero, suc, ◌+◌, ◌-◌, ◌*◌, ◌<◌, ◌≤◌, Bool, true, false, cond, ◌&&◌, ltb, leb, List, [], ◌∷◌, ◌++◌, map, length, get_or, take, drop, set, replicate, Some, None, Ok, Err, Option, Result, sym, refl, ap, ◌∙◌, subst, arith, length-append, length-drop, take-append-drop, get_or-drop}
-use lib.ListN.{length-replicate, length-map}
-use Rattle.std.proofs.lemmas.List.{append_assoc, drop_more, take_more, drop-drop, take_all, take_at, take-take, take_more_set, flat_map_more}
+use Rattle.std.proofs.Common.{◌≡◌, ℕ, zero, suc, ◌+◌, ◌-◌, ◌*◌, ◌<◌, ◌≤◌, Bool, true, false, cond, ◌&&◌, ltb, leb, List, [], ◌∷◌, ◌++◌, map, length, get_or, take, drop, set, Some, None, Ok, Err, Option, Result, sym, refl, ap, ◌∙◌, arith, length-drop, take-append-drop, get_or-drop}
+use Rattle.std.proofs.lemmas.List.{append_assoc, drop_more, take_more, take_all, take_at, take-take, take_more_set, flat_map_more}
 use Rattle.std.proofs.lemmas.Bool.{and_parts, leb-true, ltb-true}
 use Rattle.std.specs.Str.{bytes_eq}
 use borrow.Rule.Slice.PartMut.{put_mid}
@@ -10,8 +9,8 @@ use Rattle.config.specs.declared.entry.Entry.{Entry}
 use Rattle.config.specs.Images.{image}
 use Rattle.device.specs.declared.Block.{Block}
 use Rattle.device.specs.declared.Block.TheVariants.{Good, Damaged}
-use Rattle.device.specs.Accesses.{Access, read, write}
-use Rattle.journal.specs.Layout.{Pages, zeros, header_of, rising, named, entry_pages, home_pages, parse}
+use Rattle.device.specs.Accesses.{read, write}
+use Rattle.journal.specs.Layout.{Pages, zeros, header_of, rising, entry_pages, home_pages, parse}
 use Rattle.journal.specs.Plans.{Write, as_writes, run_from, changes, targets, pages, records, header_write, closed, journalled, empty_header}
 use Rattle.journal.specs.Restart.{homes, paired, with_first, read_run, unless_damaged, reads_until}
 use Rattle.journal.proofs.Plan.{written_out, as_writes_append}

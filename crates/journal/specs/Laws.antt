@@ -1,5 +1,5 @@
 -- What the journal promises, on lists of blocks: for every device at once.
-use Rattle.std.specs.Prelude.{◌≡◌, ℕ, ◌<◌, ◌≤◌, true, ◌⊎◌, List, [], ◌∷◌, ◌++◌, length, Some, Ok, Err, Result}
+use Rattle.std.specs.Prelude.{◌≡◌, ℕ, ◌<◌, ◌≤◌, true, ◌⊎◌, List, [], ◌∷◌, ◌++◌, length, Some, Ok, Result}
 use Rattle.device.specs.declared.Block.{Block}
 use Rattle.device.specs.View.{Torn, after, Within}
 use Rattle.schema.specs.declared.nodes.Node.{Node}

@@ -1,9 +1,9 @@
 -- The blocks of two sides as one. Assumes nothing.
-use Rattle.std.specs.Prelude.{◌≡◌, ℕ, zero, suc, ◌<◌, ◌≤◌, min, List, [], ◌∷◌, length, set, slice_index_or, slice_set, refl}
-use Rattle.std.proofs.Common.{sym, ap, ◌∙◌, arith}
+use Rattle.std.specs.Prelude.{◌≡◌, ℕ, zero, suc, ◌<◌, min, List, [], ◌∷◌, length, set, slice_index_or, slice_set, refl}
+use Rattle.std.proofs.Common.{ap, ◌∙◌, arith}
 use Rattle.std.proofs.lemmas.List.{get_or-set_same, set-set}
 use Rattle.device.specs.declared.Block.{Block}
-use Rattle.device.specs.declared.Block.TheVariants.{Good, Damaged}
+use Rattle.device.specs.declared.Block.TheVariants.{Damaged}
 use Rattle.mirror.specs.Sides.{better, merged}
 
 pub length_merged : (xs ys : List Block) → length (merged xs ys) ≡ min (length xs) (length ys)

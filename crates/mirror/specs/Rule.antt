@@ -1,12 +1,12 @@
 -- A mirror keeps the power rule where its sides do. Assumes nothing.
-use Rattle.std.specs.Prelude.{◌≡◌, ℕ, ◌<◌, Bool, true, false, ◌&&◌, List, length, get_or, set, Ok, Err, Result, slice_index_or, slice_set, refl}
-use Rattle.std.proofs.Common.{sym, ap, ◌∙◌, arith, length-set}
+use Rattle.std.specs.Prelude.{◌≡◌, ℕ, ◌<◌, Bool, true, ◌&&◌, List, length, get_or, set, Ok, Err, Result, slice_index_or, slice_set, refl}
+use Rattle.std.proofs.Common.{sym, ap, ◌∙◌, arith}
 use Rattle.std.proofs.lemmas.List.{set-get_or}
 use Rattle.std.proofs.lemmas.Bool.{and_parts, and_from, and_left, and_right}
 use Rattle.device.specs.declared.Block.{Block}
 use Rattle.device.specs.declared.Block.TheVariants.{Good, Damaged}
 use Rattle.device.specs.declared.DeviceFault.{DeviceFault}
-use Rattle.device.specs.declared.DeviceFault.TheVariants.{PowerLost, Refused}
+use Rattle.device.specs.declared.DeviceFault.TheVariants.{Refused}
 use Rattle.device.specs.Power.{Left, ReadAnswer, WriteAnswer}
 use Rattle.device.specs.Power as power
 use Rattle.device.proofs.Answers.{read_same, read_lost, write_done, write_cut, left_before, left_written}

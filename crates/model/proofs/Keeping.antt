@@ -1,12 +1,11 @@
 -- Every call keeps the link between model and device, and does what the rules say.
-use Rattle.std.proofs.Common.{◌≡◌, ℕ, ◌-◌, ◌<◌, ◌≤◌, Bool, true, false, cond, not, ◌&&◌, ◌||◌, eqb, ltb, leb, ◌⊎◌, List, [], ◌∷◌, length, is_some, Some, None, Ok, Err, MatchBool, Option, Result, sym, refl, ap, ◌∙◌, subst, inl, inr, arith}
-use Rattle.std.proofs.lemmas.Bool.{and_parts, and_from, le-ltb, ltb-true, ltb-false, leb-true, leb-false, lt-ltb, le-leb, lt-leb}
+use Rattle.std.proofs.Common.{◌≡◌, ℕ, ◌-◌, ◌<◌, ◌≤◌, Bool, true, false, cond, not, ◌&&◌, eqb, ltb, leb, ◌⊎◌, List, [], length, is_some, Some, None, Ok, Err, MatchBool, Option, Result, sym, refl, ap, ◌∙◌, subst, inl, inr, arith}
+use Rattle.std.proofs.lemmas.Bool.{and_parts, le-ltb, ltb-true, ltb-false, leb-true, lt-ltb, le-leb, lt-leb}
 use Rattle.device.specs.Power.{ReadAnswer, WriteAnswer}
 use Rattle.device.specs.declared.Block.{Block}
 use Rattle.device.specs.declared.DeviceFault.{DeviceFault}
-use Rattle.device.specs.declared.DeviceFault.TheVariants.{PowerLost, Refused as access_refused}
+use Rattle.device.specs.declared.DeviceFault.TheVariants.{Refused as access_refused}
 use Rattle.schema.specs.Nodes.{nodes}
-use Rattle.schema.specs.declared.nodes.Node.{Node}
 use Rattle.schema.specs.declared.typed.Schema.{Schema}
 use Rattle.schema.specs.declared.typed.SchemaFault.{SchemaFault}
 use Rattle.config.specs.Configs.{used}
@@ -16,7 +15,7 @@ use Rattle.config.specs.declared.config.Config.{Config}
 use Rattle.config.specs.declared.entry.Entry.{Entry}
 use Rattle.journal.specs.Laws as journal
 use Rattle.journal.specs.Plans.{as_writes, commit_plan}
-use Rattle.journal.specs.Restart.{Restores, restart_plan, Idle}
+use Rattle.journal.specs.Restart.{Restores, Idle}
 use Rattle.journal.proofs.Promises.{commit_writes, idle_restores, restores_stored}
 use Rattle.edit.specs.Does.{does}
 use Rattle.edit.specs.Options.{left}
@@ -28,8 +27,8 @@ use Rattle.session.specs.Locks.{Held, opened, closed, locked, unlocked}
 use Rattle.session.specs.Numbers.{is_session, is_datastore}
 use Rattle.session.specs.Trials.{Pending, Happening, begin, cancel, elapse, close, idle, is_pending, is_timeout, outcome_of, owned_by, trial_after}
 use Rattle.session.specs.declared.event.Outcome.{Outcome}
-use Rattle.session.specs.declared.event.Outcome.TheVariants.{Nothing, Reverted, Confirmed}
-use Rattle.store.specs.Calls.{Formats, Given, Made, Recovers, Recovered, Replaced, small}
+use Rattle.session.specs.declared.event.Outcome.TheVariants.{Nothing, Reverted}
+use Rattle.store.specs.Calls.{Formats, Given, Made, Recovers, Replaced, small}
 use Rattle.store.specs.Faults.{told}
 use Rattle.store.specs.Standing as standing
 use Rattle.store.specs.declared.faults.StoreFault.{StoreFault}
@@ -41,21 +40,21 @@ use Rattle.device.specs.View.{Executed}
 use Rattle.device.specs.View as view
 use Rattle.device.proofs.Carrying.{length_after, length_torn}
 use Rattle.calls.specs.declared.call.Answer.{Answer}
-use Rattle.calls.specs.declared.call.Answer.TheVariants.{Done, Shown, Refused}
+use Rattle.calls.specs.declared.call.Answer.TheVariants.{Done}
 use Rattle.calls.specs.declared.call.CommitKind.{CommitKind}
 use Rattle.calls.specs.declared.call.CommitKind.TheVariants.{Plain as plain_kind, Confirmed as confirmed_kind}
 use Rattle.calls.specs.declared.faults.Refusal.TheVariants.{EditList as no_list, SessionNumber, DatastoreNumber, OptionNumber, CommitNumbers, TooManySeconds, ShortOutput, EngineOff}
 use Rattle.calls.specs.declared.call.Call.{Call}
 use Rattle.calls.specs.declared.call.Call.TheVariants.{Open, Close, Lock, Unlock, Edit, Discard, Validate, Get, Commit, Cancel, Elapse, Restart}
 use Rattle.calls.specs.declared.faults.EngineFault.{EngineFault}
-use Rattle.calls.specs.declared.faults.EngineFault.TheVariants.{Plain, Invalid, Store}
+use Rattle.calls.specs.declared.faults.EngineFault.TheVariants.{Plain, Store}
 use Rattle.model.specs.Acts.{committed, StoredAs, Stores, StoresUnless, RestartedAs, RecoversTo, Refuses, Restarts, Acts, FormattedAs, FormatsTo, FormatsValid, FormatsImage, Formatting, ImageOf}
 use Rattle.model.specs.Link.{Linked, Agrees}
 use Rattle.model.specs.Link as link
 use Rattle.model.specs.Model.{Model, contents, fresh, with_candidate, with_held, with_on, with_running, with_standing, with_trial}
 use Rattle.model.specs.Refusals.{first, or_invalid, commit_refusals, of_kind, option_at, open_refusals, close_refusals, lock_refusals, unlock_refusals, edit_refusals, discard_refusals, validate_refusals, get_refusals, cancel_refusals, elapse_refusals}
-use Rattle.model.specs.Rules.{power_lost, StandsAfter, stored, before, after, StandsUnless, ComesBack, back, lost, ToldBy, Writes, WritesUnless, Repairs, Step, Asks}
-use Rattle.model.specs.Steps.{Judged, Edits, EditsItems, EditsUnless, GetsUnless, after_event, by_outcome}
+use Rattle.model.specs.Rules.{StandsAfter, stored, before, after, StandsUnless, ComesBack, back, lost, ToldBy, Writes, WritesUnless, Repairs, Step, Asks}
+use Rattle.model.specs.Steps.{Judged, EditsItems, EditsUnless, GetsUnless, after_event, by_outcome}
 use Rattle.model.proofs.Tables.{not_false}
 
 -- ---- what a table says that refuses nothing

@@ -1,20 +1,20 @@
 -- The promise from the points of a run.
-use Rattle.std.proofs.Common.{◌≡◌, ℕ, ◌-◌, Bool, true, false, cond, not, ◌&&◌, eqb, ltb, leb, ◌⊎◌, List, [], ◌∷◌, ◌++◌, map, Some, None, Option, Result, sym, refl, ap, ◌∙◌, subst, inl, inr, arith}
-use Rattle.std.proofs.lemmas.Bool.{and_from, leb-true, le-ltb}
+use Rattle.std.proofs.Common.{◌≡◌, ℕ, ◌-◌, Bool, true, false, cond, not, ◌&&◌, eqb, leb, ◌⊎◌, List, [], ◌∷◌, ◌++◌, map, Some, None, Option, Result, sym, refl, ap, ◌∙◌, subst, inl, inr, arith}
+use Rattle.std.proofs.lemmas.Bool.{leb-true, le-ltb}
 use Rattle.device.specs.declared.Block.{Block}
 use Rattle.device.specs.declared.DeviceFault.{DeviceFault}
 use Rattle.schema.specs.declared.nodes.Node.{Node}
 use Rattle.config.specs.declared.entry.Entry.{Entry}
 use Rattle.edit.specs.declared.item.Item.{Item}
 use Rattle.edit.specs.declared.option.ErrorOption.{ErrorOption}
-use Rattle.session.specs.Locks.{Held, is_open, locked_elsewhere}
+use Rattle.session.specs.Locks.{is_open, locked_elsewhere}
 use Rattle.session.specs.Numbers.{is_session}
-use Rattle.session.specs.Trials.{Pending, Happening, begin, cancel, close, elapse, idle, is_pending, outcome_of, owned_by, bound_elsewhere, persist_differs, trial_after}
+use Rattle.session.specs.Trials.{Pending, Happening, cancel, close, elapse, idle, is_pending, outcome_of, bound_elsewhere, persist_differs, trial_after}
 use Rattle.session.specs.declared.event.Outcome.{Outcome}
-use Rattle.session.specs.declared.event.Outcome.TheVariants.{Nothing, Reverted, Confirmed}
+use Rattle.session.specs.declared.event.Outcome.TheVariants.{Nothing, Reverted}
 use Rattle.validate.specs.declared.broken.Broken.{Broken}
 use Rattle.calls.specs.declared.call.Answer.{Answer}
-use Rattle.calls.specs.declared.call.Answer.TheVariants.{Done, Shown, Refused}
+use Rattle.calls.specs.declared.call.Answer.TheVariants.{Done}
 use Rattle.calls.specs.declared.call.Call.{Call}
 use Rattle.calls.specs.declared.call.Call.TheVariants.{Open, Close, Lock, Unlock, Edit, Discard, Validate, Get, Commit, Cancel, Elapse, Restart}
 use Rattle.calls.specs.declared.call.CommitKind.TheVariants.{Plain as plain_kind, Confirmed as confirmed_kind}
@@ -23,10 +23,10 @@ use Rattle.calls.specs.declared.faults.EngineFault.TheVariants.{Plain}
 use Rattle.calls.specs.declared.faults.Refusal.TheVariants.{SessionNumber, EngineOff, SessionNotOpen, LockedElsewhere, TrialBound, PersistDiffers, NoTrial}
 use Rattle.model.proofs.Tables.{not_false}
 use Rattle.model.specs.Link.{Linked}
-use Rattle.model.specs.Model.{Model, contents, fresh, with_candidate, with_held, with_running, with_trial}
+use Rattle.model.specs.Model.{Model, fresh}
 use Rattle.model.specs.Promise.{PlainCommit, LosesPower, Rejected, Ends, ShowsModel, Point, reached, left_with, AtAll, Quiet, end, other, rejected, Follows, none, more, Promise}
-use Rattle.model.specs.Refusals.{first, or_invalid, option_at, cancel_refusals, close_refusals, commit_refusals, edit_refusals, elapse_refusals, get_refusals, validate_refusals}
-use Rattle.model.specs.Rules.{power_lost, Step, Asks, StandsAfter, stored, before, after, StandsUnless, ComesBack, back, lost}
+use Rattle.model.specs.Refusals.{first, or_invalid, option_at, cancel_refusals, close_refusals, commit_refusals, elapse_refusals}
+use Rattle.model.specs.Rules.{Step, Asks, StandsAfter, stored, before, after, StandsUnless, ComesBack, back, lost}
 use Rattle.model.specs.Steps.{Judged, EditsItems, EditsUnless, GetsUnless, after_event, by_outcome}
 
 -- ---- which steps leave the standing configuration

@@ -1,6 +1,6 @@
 -- What the calls do on any engine: the answer, the model afterwards, and what was asked of the device. `schema` is what checking the
 -- schema's rows gave, `verdict` the validator's meaning; `blocks`, `powered`, `raises`, `reads` and `writes` are the device's.
-use Rattle.std.specs.Prelude.{◌≡◌, ℕ, Bool, true, false, List, [], Some, None, Ok, Err, MatchBool, Option, Result, ◌≢◌}
+use Rattle.std.specs.Prelude.{◌≡◌, ℕ, Bool, false, List, [], Some, None, Ok, Err, MatchBool, Option, Result, ◌≢◌}
 use Rattle.device.specs.declared.Block.{Block}
 use Rattle.device.specs.declared.DeviceFault.{DeviceFault}
 use Rattle.schema.specs.Nodes.{nodes}

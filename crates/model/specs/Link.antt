@@ -1,5 +1,5 @@
 -- What ties a model to a device, a schema and a validator.
-use Rattle.std.specs.Prelude.{◌≡◌, ℕ, ◌≤◌, Bool, true, false, List, length, Ok, Result}
+use Rattle.std.specs.Prelude.{◌≡◌, ◌≤◌, Bool, true, false, List, length, Ok, Result}
 use Rattle.device.specs.declared.Block.{Block}
 use Rattle.schema.specs.declared.nodes.Node.{Node}
 use Rattle.config.specs.Lawful.{Lawful}

@@ -1,6 +1,6 @@
 -- When a call is refused: for each call the refusals in their order, each with its condition. The first whose condition holds is
 -- the answer.
-use Rattle.std.specs.Prelude.{ℕ, Bool, true, false, cond, not, ◌&&◌, ◌||◌, List, [], ◌∷◌, is_some, Some, None, Ok, Err, Option, Result, ◌==◌, nat_lt}
+use Rattle.std.specs.Prelude.{ℕ, Bool, cond, not, ◌&&◌, ◌||◌, List, [], ◌∷◌, is_some, Some, None, Ok, Err, Option, Result, ◌==◌, nat_lt}
 use Rattle.session.specs.Numbers.{is_session, is_datastore}
 use Rattle.session.specs.Locks.{is_open, is_locked, holds, locked_elsewhere}
 use Rattle.session.specs.Trials.{is_pending, is_timeout, owned_elsewhere, bound_elsewhere, persist_differs}

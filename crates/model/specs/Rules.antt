@@ -1,6 +1,6 @@
 -- The rules over a run: which answers and which next models a call may have, and what it asks of the device.
 -- `ns` are the nodes of the schema, `verdict` is the validator's meaning.
-use Rattle.std.specs.Prelude.{◌≡◌, ℕ, ◌<◌, ◌≤◌, Bool, true, false, ◌⊎◌, List, Some, None, Ok, Err, Option, Result, ◌≢◌}
+use Rattle.std.specs.Prelude.{◌≡◌, ℕ, ◌<◌, ◌≤◌, false, ◌⊎◌, List, Some, None, Ok, Err, Option, Result, ◌≢◌}
 use Rattle.device.specs.Accesses.{Carried}
 use Rattle.device.specs.declared.Block.{Block}
 use Rattle.device.specs.declared.DeviceFault.{DeviceFault}

@@ -1,10 +1,10 @@
 -- What the calls do that ask nothing of the device. `ns` are the nodes of the schema, `verdict` is the validator's meaning.
-use Rattle.std.specs.Prelude.{◌≡◌, ℕ, ◌-◌, ◌≤◌, Bool, true, false, cond, List, [], ◌∷◌, ◌++◌, length, replicate, is_some, Some, None, Ok, Err, Option, Result, ◌≢◌, slice_index_or}
+use Rattle.std.specs.Prelude.{◌≡◌, ℕ, ◌-◌, ◌≤◌, List, ◌++◌, length, replicate, is_some, Some, None, Option, Result, ◌≢◌, slice_index_or}
 use Rattle.schema.specs.declared.nodes.Node.{Node}
 use Rattle.config.specs.Images.{image}
 use Rattle.config.specs.declared.entry.Entry.{Entry}
 use Rattle.session.specs.Locks.{opened, closed, locked, unlocked}
-use Rattle.session.specs.Trials.{Pending, Happening, begin, confirm, cancel, elapse, close, trial_after, outcome_of}
+use Rattle.session.specs.Trials.{Happening, begin, cancel, elapse, close, trial_after, outcome_of}
 use Rattle.session.specs.declared.event.Outcome.{Outcome}
 use Rattle.session.specs.declared.event.Outcome.TheVariants.{Nothing, Reverted, Confirmed}
 use Rattle.edit.specs.Does.{does}

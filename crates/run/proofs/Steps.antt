@@ -23,7 +23,7 @@ use Rattle.model.specs.Acts.{Acts, Formatting}
 use Rattle.model.specs.Link.{Agrees, Linked, Tied}
 use Rattle.model.specs.Model.{Model, fresh}
 use Rattle.model.specs.Rules.{Asks}
-use Rattle.model.specs.Promise.{Point, Promise, ShowsModel, left_with, reached}
+use Rattle.model.specs.Promise.{Point, Promise, ShowsModel, reached}
 use Rattle.run.specs.Ran.{Chain, Points}
 
 map_push : {A B : Type 0} (f : A → B) (xs : List A) (x : A) → map f (xs ++ x ∷ []) ≡ map f xs ++ f x ∷ []

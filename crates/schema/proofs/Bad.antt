@@ -1,5 +1,5 @@
 -- The lowest bad node.
-use Rattle.std.proofs.Common.{◌≡◌, ℕ, ◌+◌, ◌-◌, ◌<◌, ◌≤◌, List, length, get_or, sym, subst, ⊎_elim, arith, below_more}
+use Rattle.std.proofs.Common.{◌≡◌, ℕ, ◌+◌, ◌-◌, ◌<◌, List, length, get_or, sym, subst, arith, below_more}
 use Rattle.std.proofs.lemmas.List.{get_or_default}
 use Rattle.schema.specs.declared.nodes.NodeRow.{NodeRow}
 use Rattle.schema.specs.Rules.{Counted, LawfulBelow, NodeLawful}

@@ -1,14 +1,14 @@
 -- The nodes of lawful rows nest at most two deep.
-use Rattle.std.proofs.Common.{◌≡◌, ℕ, zero, suc, ◌+◌, ◌<◌, ◌≤◌, Bool, true, false, cond, ◌&&◌, eqb, List, [], ◌∷◌, map, length, get_or, Some, None, Option, sym, refl, ap, ◌∙◌, subst, ⊎_elim, not-suc-le-zero, arith}
+use Rattle.std.proofs.Common.{◌≡◌, ℕ, zero, suc, ◌+◌, ◌<◌, Bool, true, false, List, [], ◌∷◌, map, length, get_or, Some, None, Option, sym, refl, ap, ◌∙◌, subst, ⊎_elim, arith}
 use Rattle.std.specs.Option.{option_map}
 use Rattle.std.proofs.lemmas.List.{get_or-map, length-map}
-use Rattle.std.proofs.lemmas.Bool.{and_from, and_parts, both_ways, cases_eq, cases_lt, cond-true, cond-false, eq-eqb, ne_eqb}
+use Rattle.std.proofs.lemmas.Bool.{and_from, and_parts, both_ways, cases_eq, cond-true, cond-false, eq-eqb, ne_eqb}
 use Rattle.schema.specs.declared.nodes.Node.{Node}
 use Rattle.schema.specs.declared.nodes.Node.TheVariants.{List as list_node, Leaf}
 use Rattle.schema.specs.declared.nodes.NodeRow.{NodeRow}
 use Rattle.schema.specs.declared.path.Path.{Path}
 use Rattle.schema.specs.Paths.{around, around_node, inner_entry, outer_entry}
-use Rattle.schema.specs.Rows.{at, number_in, kind_at, parent_at}
+use Rattle.schema.specs.Rows.{at, number_in, parent_at}
 use Rattle.schema.specs.Rules.{Lawful, NodeLawful, ParentLawful}
 use Rattle.schema.specs.Nodes.{node_of, optional}
 use Rattle.schema.specs.Depth.{is_list, is_top_list, list_placed, leaf_placed, placed, every, two_deep, no_parent}

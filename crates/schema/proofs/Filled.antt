@@ -1,5 +1,5 @@
 -- A list that is filled from the front with what a function makes of another list's items.
-use Rattle.std.proofs.Common.{◌≡◌, ℕ, ◌+◌, ◌<◌, ◌≤◌, List, [], ◌∷◌, ◌++◌, map, length, get_or, take, set, sym, ap, ◌∙◌, arith}
+use Rattle.std.proofs.Common.{◌≡◌, ℕ, ◌+◌, ◌<◌, List, [], ◌∷◌, ◌++◌, map, length, get_or, take, set, sym, ap, ◌∙◌, arith}
 use Rattle.std.proofs.lemmas.List.{take_more_set, map_more, take_all}
 
 module _ {X Y : Type 0} (f : X → Y) (xs : List X) (ys : List Y) (i : ℕ) (so_far : take i ys ≡ map f (take i xs)) where

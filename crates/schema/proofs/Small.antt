@@ -1,8 +1,8 @@
 -- The nodes that a lawful row names are few.
-use Rattle.std.proofs.Common.{◌≡◌, ℕ, ◌+◌, ◌<◌, ◌≤◌, List, length, get_or, sym, refl, ap, ◌∙◌, ⊎_elim, arith}
+use Rattle.std.proofs.Common.{◌≡◌, ℕ, ◌+◌, ◌<◌, ◌≤◌, List, length, get_or, sym, ap, ◌∙◌, ⊎_elim, arith}
 use Rattle.std.proofs.lemmas.Bool.{cases_lt, cases_eq}
 use Rattle.schema.specs.declared.nodes.NodeRow.{NodeRow}
-use Rattle.schema.specs.Rows.{at, number_in, kind_at}
+use Rattle.schema.specs.Rows.{number_in, kind_at}
 use Rattle.schema.specs.Rules.{Lawful, NodeLawful, ParentLawful}
 use Rattle.schema.proofs.Numbered.{at_past}
 

@@ -1,16 +1,15 @@
 -- Both devices keep the power rule. Assumes nothing.
-use Rattle.std.specs.Prelude.{◌≡◌, ℕ, ◌<◌, Bool, true, false, List, length, get_or, set, Ok, Err, vec_items, Result, refl}
+use Rattle.std.specs.Prelude.{◌≡◌, ℕ, ◌<◌, true, List, length, vec_items, Result, refl}
 use Rattle.std.proofs.Common.{sym, ap, ◌∙◌}
 use Rattle.std.proofs.lemmas.List.{set-get_or}
 use Rattle.device.specs.declared.Block.{Block}
-use Rattle.device.specs.declared.Block.TheVariants.{Good, Damaged}
+use Rattle.device.specs.declared.Block.TheVariants.{Damaged}
 use Rattle.device.specs.declared.DeviceFault.{DeviceFault}
-use Rattle.device.specs.declared.DeviceFault.TheVariants.{PowerLost}
 use Rattle.device.specs.Power.{ReadAnswer, WriteAnswer}
 use Rattle.device.specs.Power as power
 use Rattle.device.proofs.Answers.{read_same, read_lost, write_done, write_cut, left_before}
 use Rattle.device.proofs.Reach.{read_by_reach, write_by_reach}
-use Rattle.scripted.specs.Script.{is_done, left_by, outcome_of, answer_by}
+use Rattle.scripted.specs.Script.{outcome_of}
 use Rattle.scripted.specs.Steps.{scripted_blocks, script_left, ReadBy, WriteBy, ScriptedReads, ScriptedWrites, doomed_blocks, Loses, DoomedReads, DoomedWrites}
 use Rattle.scripted.specs.declared.Outcome.{Outcome}
 use Rattle.scripted.specs.declared.Outcome.TheVariants.{Done, LostBefore, LostWritten, LostTorn}

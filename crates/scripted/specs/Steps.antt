@@ -1,5 +1,5 @@
 -- What the two devices do. Assumes nothing.
-use Rattle.std.specs.Prelude.{◌≡◌, ℕ, Bool, true, false, List, drop, Err, vec_items, Result, slice_index_or, slice_set}
+use Rattle.std.specs.Prelude.{◌≡◌, ℕ, true, false, List, drop, Err, vec_items, Result, slice_index_or, slice_set}
 use Rattle.device.specs.Reach.{UnlessRefused}
 use Rattle.device.specs.declared.Block.{Block}
 use Rattle.device.specs.declared.Block.TheVariants.{Damaged}

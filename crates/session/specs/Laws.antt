@@ -1,5 +1,5 @@
 -- Sessions, locks and trials in the subject's own words.
-use Rattle.std.specs.Prelude.{◌≡◌, ℕ, ◌+◌, ◌-◌, ◌<◌, ◌≤◌, Bool, true, false, List, [], ◌∷◌, map, ◌≢◌}
+use Rattle.std.specs.Prelude.{◌≡◌, ℕ, ◌+◌, ◌-◌, ◌<◌, ◌≤◌, true, false, List, [], ◌∷◌, map, ◌≢◌}
 use Rattle.session.specs.Locks.{Held, closed, holder, holds, is_locked, is_open, opened}
 use Rattle.session.specs.Meaning.{held_of, trial_of}
 use Rattle.session.specs.Trials.{Happening, Pending, close, elapse, idle, is_pending, outcome_of, owned_by, trial_after}

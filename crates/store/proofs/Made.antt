@@ -1,13 +1,12 @@
 -- What follows from accesses that were made, whatever the device.
-use Rattle.std.proofs.Common.{◌≡◌, ℕ, zero, suc, ◌<◌, Bool, true, List, [], ◌∷◌, ◌++◌, length, get_or, Ok, Err, Result, sym, refl, ap, ◌∙◌, subst, arith}
+use Rattle.std.proofs.Common.{◌≡◌, ℕ, ◌<◌, Bool, List, [], ◌∷◌, ◌++◌, length, get_or, Ok, Err, Result, refl, ap, ◌∙◌, subst, arith}
 use Rattle.device.specs.declared.Block.{Block}
-use Rattle.device.specs.declared.Block.TheVariants.{Good, Damaged}
+use Rattle.device.specs.declared.Block.TheVariants.{Damaged}
 use Rattle.device.specs.declared.DeviceFault.{DeviceFault}
 use Rattle.device.specs.Power.{ReadAnswer, WriteAnswer}
-use Rattle.device.specs.Accesses.{Access, read, write, Carried, all, read_on, write_on, read_fails, write_fails}
+use Rattle.device.specs.Accesses.{Access, write, Carried, all, read_on, write_on, write_fails}
 use Rattle.device.specs.View.{after}
 use Rattle.device.proofs.Facts.{found, wrote}
-use Rattle.device.proofs.Carrying.{carried_then, carried_ends}
 use Rattle.journal.specs.Layout.{Pages, header_of, home_pages}
 use Rattle.journal.specs.Plans.{Write, as_writes, run_from, closed, empty_header, format_plan}
 use Rattle.config.specs.declared.entry.Entry.{Entry}

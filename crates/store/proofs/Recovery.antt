@@ -1,5 +1,5 @@
 -- The parts of a recovery put together.
-use Rattle.std.proofs.Common.{◌≡◌, ℕ, ◌<◌, ◌≤◌, Bool, true, false, ltb, List, [], ◌∷◌, ◌++◌, length, get_or, Some, None, Ok, Err, MatchBool, Option, Result, sym, refl, ap, ◌∙◌, subst, arith}
+use Rattle.std.proofs.Common.{◌≡◌, ℕ, ◌≤◌, Bool, List, [], ◌∷◌, ◌++◌, length, get_or, Some, None, Ok, Err, MatchBool, Option, Result, sym, refl, ap, ◌∙◌, subst, arith}
 use Rattle.std.proofs.lemmas.List.{append_assoc}
 use Rattle.std.proofs.lemmas.Bool.{le-ltb}
 use Rattle.device.specs.declared.Block.{Block}
@@ -15,12 +15,12 @@ use Rattle.config.specs.declared.config.Config.{Config}
 use Rattle.config.specs.declared.entry.Entry.{Entry}
 use Rattle.journal.specs.Layout.{Pages, parse}
 use Rattle.journal.specs.Plans.{Write, as_writes, closed}
-use Rattle.journal.specs.Restart.{read_run, homes, homes_after, paired, with_records, by_targets, by_header, pending, stored, Judged, Restores, reads_until, target_reads, record_reads, repairs, restart_plan}
+use Rattle.journal.specs.Restart.{read_run, homes_after, paired, with_records, by_targets, by_header, pending, stored, Judged, Restores, reads_until, target_reads, record_reads, repairs, restart_plan}
 use Rattle.journal.proofs.Plan.{written_out}
 use Rattle.journal.proofs.Restarting.{reads_leave, records_read}
 use Rattle.journal.proofs.Steps.{closed_homes}
 use Rattle.store.specs.Accepting.{Accepts}
-use Rattle.store.specs.Calls.{Given, small, UnlessSmall}
+use Rattle.store.specs.Calls.{Given, UnlessSmall}
 use Rattle.store.specs.Faults.{told}
 use Rattle.store.specs.Mending.{mends, EndedBy, Redone, Mended}
 use Rattle.store.specs.Running.{Ran, RanTo}

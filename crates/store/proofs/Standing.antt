@@ -1,11 +1,11 @@
 -- What stands after the calls, from the laws of the device and of the journal.
-use Rattle.std.proofs.Common.{◌≡◌, ℕ, ◌<◌, ◌≤◌, Bool, true, false, ltb, List, [], ◌∷◌, length, Ok, Err, MatchBool, Result, sym, refl, ap, ◌∙◌, subst, arith}
+use Rattle.std.proofs.Common.{◌≡◌, ℕ, ◌≤◌, Bool, true, false, List, [], ◌∷◌, length, Ok, Err, MatchBool, Result, sym, refl, ap, ◌∙◌, subst, arith}
 use Rattle.std.proofs.lemmas.Bool.{le-ltb}
 use Rattle.device.specs.declared.Block.{Block}
 use Rattle.device.specs.declared.DeviceFault.{DeviceFault}
-use Rattle.device.specs.declared.DeviceFault.TheVariants.{PowerLost, Refused}
+use Rattle.device.specs.declared.DeviceFault.TheVariants.{Refused}
 use Rattle.device.specs.Power.{ReadAnswer, WriteAnswer}
-use Rattle.device.specs.Accesses.{Access, write, Carried, all}
+use Rattle.device.specs.Accesses.{Access, Carried, all}
 use Rattle.device.specs.View.{Executed, Torn, after, Within}
 use Rattle.device.specs.View as view
 use Rattle.device.proofs.Carrying.{seen, off_carried, length_torn}
@@ -17,7 +17,7 @@ use Rattle.config.specs.declared.entry.Entry.{Entry}
 use Rattle.journal.specs.Plans.{Write, as_writes, format_plan, commit_plan}
 use Rattle.journal.specs.Restart.{Restores, restart_plan, Idle}
 use Rattle.journal.proofs.Promises.{format_finishes, commit_recovers, commit_finishes, repair_recovers, repair_finishes, restores_once, plans_within}
-use Rattle.store.specs.Calls.{Made, Formats, Formatted, Recovers, Recovered, Replaced, Given, UnlessSmall}
+use Rattle.store.specs.Calls.{Made, Formats, Recovers, Given, UnlessSmall}
 use Rattle.store.specs.Faults.{told}
 use Rattle.store.specs.Standing.{lost_at, FormatOutcome, ReplaceOutcome, RecoverOutcome, BlocksAfter, OffReplaces, Stands}
 use Rattle.store.specs.Standing as standing

@@ -1,5 +1,5 @@
 -- The configuration that home blocks hold.
-use Rattle.std.specs.Prelude.{◌≡◌, ℕ, List, [], ◌∷◌, drop, Some, None, Ok, Err, Option, slice_index, slice_index_or}
+use Rattle.std.specs.Prelude.{ℕ, List, [], ◌∷◌, drop, Some, None, Ok, Err, Option, slice_index, slice_index_or}
 use Rattle.std.specs.List.{flat_map}
 use Rattle.schema.specs.declared.nodes.Node.{Node}
 use Rattle.config.specs.Configs.{used}

@@ -1,5 +1,5 @@
 -- How a fault of the store is told.
-use Rattle.std.specs.Prelude.{ℕ, Some, Ok, Err, Option, Result}
+use Rattle.std.specs.Prelude.{Some, Ok, Err, Option, Result}
 use Rattle.fault.specs.Reports.{because, plain}
 use Rattle.fault.specs.declared.Report.{Report}
 use Rattle.device.specs.Reports.{device_report}

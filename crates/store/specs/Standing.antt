@@ -1,5 +1,5 @@
 -- What the calls of the store make of what stands, on any device that keeps the power rule.
-use Rattle.std.specs.Prelude.{◌≡◌, ℕ, ◌≤◌, Bool, true, false, List, [], ◌∷◌, length, Ok, Err, Result, ◌≢◌}
+use Rattle.std.specs.Prelude.{◌≡◌, ℕ, ◌≤◌, Bool, true, false, List, [], length, Ok, Err, Result, ◌≢◌}
 use Rattle.device.specs.declared.Block.{Block}
 use Rattle.device.specs.declared.DeviceFault.{DeviceFault}
 use Rattle.device.specs.declared.DeviceFault.TheVariants.{PowerLost, Refused}

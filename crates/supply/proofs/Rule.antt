@@ -5,10 +5,10 @@ use Rattle.std.proofs.lemmas.Bool.{eqb-true, eqb-false, cases_lt}
 use Rattle.device.specs.declared.Block.{Block}
 use Rattle.device.specs.declared.Block.TheVariants.{Good, Damaged}
 use Rattle.device.specs.declared.DeviceFault.{DeviceFault}
-use Rattle.device.specs.declared.DeviceFault.TheVariants.{PowerLost, Refused}
+use Rattle.device.specs.declared.DeviceFault.TheVariants.{Refused}
 use Rattle.device.specs.Power.{Left, WriteAnswer}
 use Rattle.device.proofs.Answers.{write_done, write_lost, left_before, left_torn}
-use Rattle.supply.specs.Budget.{is_on, left_of, allowed, Spent}
+use Rattle.supply.specs.Budget.{is_on, left_of, allowed}
 use Rattle.supply.specs.Writing.{ByteWrites, BlockWrite, Tears}
 use Rattle.supply.specs.Cells.{blocks_by}
 use Rattle.supply.specs.declared.Supply.{Supply}

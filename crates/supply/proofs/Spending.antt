@@ -1,7 +1,7 @@
 -- Byte writes one after the other. Assumes nothing.
-use Rattle.std.proofs.Common.{◌≡◌, ℕ, ◌+◌, ◌-◌, ◌<◌, ◌≤◌, min, Bool, true, false, eqb, Some, None, Option, sym, refl, ap, ◌∙◌, subst, ⊎_elim, arith}
+use Rattle.std.proofs.Common.{◌≡◌, ℕ, ◌+◌, ◌-◌, ◌<◌, ◌≤◌, Bool, true, false, eqb, Some, None, Option, sym, refl, ap, ◌∙◌, subst, ⊎_elim, arith}
 use Rattle.std.proofs.lemmas.Bool.{eqb-true, eqb-false, eq-eqb, ne_eqb, cases_lt, cases_eq, false≢true}
-use Rattle.supply.specs.Budget.{is_on, left_of, cuts_of, allowed, less, Spent}
+use Rattle.supply.specs.Budget.{is_on, left_of, allowed, less, Spent}
 use Rattle.supply.specs.declared.Supply.{Supply}
 
 pub allowed_le : (b : Option ℕ) (n : ℕ) → allowed b n ≤ n

@@ -1,5 +1,5 @@
 -- Payload and mark of the cell are those of the part.
-use Rattle.std.proofs.Common.{◌≡◌, ℕ, List, get_or, take, sym, ap, ◌∙◌, arith}
+use Rattle.std.proofs.Common.{ℕ, List, take, sym, ap, ◌∙◌, arith}
 use Rattle.std.proofs.lemmas.List.{get_or-take, take-take}
 use Rattle.device.specs.declared.Block.TheVariants.{Good}
 use Rattle.flash.specs.Cells.{content_good, content_damaged}

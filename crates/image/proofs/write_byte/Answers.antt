@@ -1,6 +1,5 @@
 -- The byte at its place makes one byte write more; where power fails at it, all ends.
-use Rattle.std.proofs.Common.{◌≡◌, true, false, arith}
-use Rattle.supply.specs.Budget.{Spent}
+use Rattle.std.proofs.Common.{arith}
 use Rattle.image.proofs.Writes.{goes_on, ends_here}
 use Rattle.image.proofs.write_byte.Goals as goal
 

@@ -1,4 +1,4 @@
-use Rattle.std.proofs.Common.{◌≡◌, ℕ, ◌+◌, ◌<◌, ◌≤◌, List, [], ◌∷◌, ◌++◌, length, get_or, take, drop, set, sym, refl, ap, ◌∙◌, arith, drop-set-lt, rules}
+use Rattle.std.proofs.Common.{◌<◌, [], length, get_or, take, refl, ◌∙◌, arith, drop-set-lt, rules}
 use Rattle.std.proofs.lemmas.List.{take_more, take_more_set}
 use Rattle.calls.specs.declared.call.Call.TheVariants.{Open}
 use Rattle.model.specs.Promise.{none}

@@ -1,4 +1,4 @@
-use Rattle.std.proofs.Common.{◌≡◌, ℕ, ◌≤◌, length, take, drop}
+use Rattle.std.proofs.Common.{◌≡◌, ℕ, ◌≤◌, take, drop}
 use Rattle.engine.specs.Seen.{schema_of, validator_of}
 use Rattle.run.specs.Ran.{Chain}
 use Rattle.run.proofs.perform_all.Given as goal

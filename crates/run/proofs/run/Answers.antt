@@ -1,4 +1,4 @@
-use Rattle.std.proofs.Common.{◌≡◌, take, sym, refl, ap, ◌∙◌}
+use Rattle.std.proofs.Common.{take, ◌∙◌}
 use Rattle.model.specs.Model.{fresh}
 use Rattle.run.proofs.Steps.{begun, promise_of}
 use Rattle.run.proofs.run.Goals as goal

@@ -1,5 +1,5 @@
 -- Below `i` the rows are as they were, above it those in use stand one place higher, and past them nothing is changed.
-use Rattle.std.proofs.Common.{◌≡◌, ℕ, ◌-◌, ◌<◌, ◌≤◌, length, get_or}
+use Rattle.std.proofs.Common.{◌≡◌, ℕ, ◌-◌, ◌<◌, ◌≤◌, get_or}
 use Rattle.table.proofs.add.Given as goal
 
 abbrev pub invariant-loop-i : goal.invariant-loop-i

@@ -1,5 +1,5 @@
 -- The rows between `place` and `i` stand one place lower, and all others are as they were.
-use Rattle.std.proofs.Common.{◌≡◌, ℕ, ◌+◌, ◌<◌, ◌≤◌, length, get_or}
+use Rattle.std.proofs.Common.{◌≡◌, ℕ, ◌+◌, ◌<◌, ◌≤◌, get_or}
 use Rattle.table.proofs.remove.Given as goal
 
 abbrev pub invariant-loop-i : goal.invariant-loop-i

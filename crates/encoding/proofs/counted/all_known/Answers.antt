@@ -1,4 +1,4 @@
-use Rattle.std.proofs.Common.{◌≡◌, ◌<◌, refl, arith, below_more}
+use Rattle.std.proofs.Common.{◌≡◌, refl, arith, below_more}
 use Rattle.std.proofs.lemmas.Bool.{false≢true}
 use Rattle.encoding.specs.Counts.{record_bytes, slot_bytes}
 use Rattle.encoding.proofs.counted.all_known.Goals as goal

@@ -1,6 +1,6 @@
-use Rattle.std.proofs.Common.{◌≡◌, ◌+◌, ◌*◌, ◌<◌, ◌≤◌, length, sym, refl, ap, ◌∙◌, subst, arith}
+use Rattle.std.proofs.Common.{◌≡◌, ◌+◌, ◌<◌, length, sym, refl, ap, ◌∙◌, subst, arith}
 use Rattle.std.proofs.lemmas.Bool.{false≢true}
-use Rattle.encoding.specs.Counts.{Decoded, counted, record_bytes, slot_bytes}
+use Rattle.encoding.specs.Counts.{Decoded, slot_bytes}
 use Rattle.encoding.proofs.Lists.{Filled, counted_first, filled_all, filled_more, length_counted, slot_known}
 use Rattle.encoding.proofs.counted.decode.Goals as goal
 use Rattle.encoding.proofs.counted.decode.Goals.{in-Some, in_default}

@@ -1,4 +1,4 @@
-use Rattle.std.proofs.Common.{◌≡◌, refl, rules}
+use Rattle.std.proofs.Common.{rules}
 use Rattle.engine.proofs.Editing.{option_some, option_none}
 use Rattle.engine.proofs.refusals.option_of.Goals as goal
 

@@ -1,5 +1,5 @@
 -- As large as the smaller side.
-use Rattle.std.proofs.Common.{◌≡◌, arith}
+use Rattle.std.proofs.Common.{arith}
 use Rattle.mirror.specs.Merged.{length_merged}
 use Rattle.mirror.proofs.MirrorDevice.block_count.Goals as goal
 

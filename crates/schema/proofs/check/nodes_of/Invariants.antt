@@ -1,5 +1,5 @@
 -- The nodes so far are those of the rows so far.
-use Rattle.std.proofs.Common.{◌≡◌, ◌≤◌, map, length, take}
+use Rattle.std.proofs.Common.{◌≡◌, map, length, take}
 use Rattle.schema.specs.Nodes.{node_of}
 use Rattle.schema.proofs.check.nodes_of.Given as goal
 

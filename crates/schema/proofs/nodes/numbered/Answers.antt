@@ -1,4 +1,4 @@
-use Rattle.std.proofs.Common.{◌≡◌, ◌-◌, ◌<◌, Some, sym, ap, ◌∙◌, subst, ⊎_elim, arith}
+use Rattle.std.proofs.Common.{◌<◌, Some, sym, ap, ◌∙◌, ⊎_elim, arith}
 use Rattle.schema.specs.Rows.{at}
 use Rattle.schema.proofs.Numbered.{at_zero, at_past, at_place}
 use Rattle.schema.proofs.nodes.numbered.Goals as goal

@@ -1,9 +1,7 @@
-use Rattle.std.proofs.Common.{◌≡◌, ℕ, ◌+◌, ◌-◌, ◌*◌, ◌<◌, ◌≤◌, List, [], ◌∷◌, length, get_or, take, drop, sym, refl, ap, ◌∙◌, subst, arith}
+use Rattle.std.proofs.Common.{◌≡◌, ℕ, ◌+◌, ◌-◌, ◌*◌, ◌≤◌, List, [], ◌∷◌, length, get_or, take, sym, refl, ap, ◌∙◌, arith}
 use Rattle.std.proofs.lemmas.List.{length-take-le}
-use Rattle.schema.specs.declared.nodes.Node.{Node}
 use Rattle.config.specs.Configs.{used}
 use Rattle.config.specs.Images.{image}
-use Rattle.config.specs.Lawful.{Lawful}
 use Rattle.config.specs.declared.entry.Entry.{Entry}
 use Rattle.config.proofs.Images.{image_same}
 use Rattle.journal.specs.Layout.{Pages, home_pages}

@@ -1,13 +1,12 @@
 -- Each turn hands its read on to the reads that are left; one that is not done, or finds a damaged block, ends them there.
 use Rattle.std.proofs.Common.{◌≡◌, ℕ, ◌+◌, ◌-◌, ◌<◌, List, [], ◌∷◌, length, get_or, Ok, Err, Result, sym, refl, ap, ◌∙◌, subst, arith, rules}
-use Rattle.device.specs.Accesses.{Access, read, Carried, all, read_on, read_fails}
+use Rattle.device.specs.Accesses.{read, all, read_on, read_fails}
 use Rattle.device.specs.declared.Block.{Block}
 use Rattle.device.specs.declared.Block.TheVariants.{Good, Damaged}
 use Rattle.journal.specs.Layout.{Pages}
-use Rattle.journal.specs.Restart.{read_run, reads_until, unless_damaged}
-use Rattle.journal.proofs.Steps.{reads_left, no_reads_left, Reading, reading_none, reading_more, reading_fault, reading_all}
-use Rattle.store.specs.Running.{Ran, RanTo}
-use Rattle.store.specs.declared.faults.StoreFault.{StoreFault}
+use Rattle.journal.specs.Restart.{reads_until, unless_damaged}
+use Rattle.journal.proofs.Steps.{reads_left, no_reads_left, reading_none, reading_more, reading_fault, reading_all}
+use Rattle.store.specs.Running.{RanTo}
 use Rattle.store.specs.declared.faults.StoreFault.TheVariants.{Device, Corrupt}
 use Rattle.store.proofs.Made.{read_block}
 use Rattle.store.proofs.access.read_run.Goals as goal

@@ -1,7 +1,7 @@
 -- Each turn hands its write on to the writes that are left; one that is not done ends them there.
-use Rattle.std.proofs.Common.{◌≡◌, ℕ, ◌+◌, ◌<◌, ◌≤◌, List, [], ◌∷◌, length, get_or, take, drop, Err, sym, ap, ◌∙◌, arith, rules}
+use Rattle.std.proofs.Common.{◌≡◌, ℕ, ◌+◌, ◌<◌, ◌≤◌, [], ◌∷◌, length, get_or, drop, Err, sym, ap, ◌∙◌, arith, rules}
 use Rattle.std.proofs.lemmas.List.{get_or-take, length-take-le}
-use Rattle.device.specs.Accesses.{Access, write, all, write_on, write_fails}
+use Rattle.device.specs.Accesses.{write, all, write_on, write_fails}
 use Rattle.journal.specs.Layout.{Pages}
 use Rattle.journal.specs.Plans.{as_writes}
 use Rattle.journal.specs.Restart.{paired}

@@ -1,4 +1,4 @@
-use Rattle.std.proofs.Common.{◌≡◌, [], ◌∷◌, ◌++◌, Err, sym, rules}
+use Rattle.std.proofs.Common.{◌≡◌, ◌∷◌, Err, rules}
 use Rattle.device.specs.Accesses.{write, write_on, write_fails}
 use Rattle.device.proofs.Carrying.{carried_then, carried_ends}
 use Rattle.journal.specs.Layout.{header_of}

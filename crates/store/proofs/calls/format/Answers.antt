@@ -1,4 +1,4 @@
-use Rattle.std.proofs.Common.{◌≡◌, ◌≤◌, [], ◌∷◌, length, Ok, Err, sym, arith, rules}
+use Rattle.std.proofs.Common.{◌≡◌, ◌≤◌, [], ◌∷◌, length, Ok, Err, arith, rules}
 use Rattle.config.specs.Configs.{used}
 use Rattle.device.specs.Accesses.{write, all, write_on, write_fails}
 use Rattle.device.proofs.Carrying.{carried_then, carried_ends}

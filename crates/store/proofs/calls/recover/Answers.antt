@@ -1,4 +1,4 @@
-use Rattle.std.proofs.Common.{◌≡◌, ◌≤◌, length, Some, None, Ok, Err, refl, arith, rules}
+use Rattle.std.proofs.Common.{◌≡◌, ◌≤◌, length, Some, None, Err, refl, arith, rules}
 use Rattle.schema.specs.Nodes.{nodes}
 use Rattle.store.proofs.Recovery.{large, unmended, unread_homes, read_homes}
 use Rattle.store.proofs.calls.recover.Goals as goal

@@ -1,7 +1,6 @@
-use Rattle.std.proofs.Common.{◌≡◌, ℕ, length, Ok, Err, sym, refl, ap, subst, rules}
+use Rattle.std.proofs.Common.{◌≡◌, length, Ok, Err, refl, rules}
 use Rattle.store.specs.Targets.{listed}
-use Rattle.store.specs.Running.{Ran}
-use Rattle.journal.specs.Restart.{read_run, reads_until}
+use Rattle.journal.specs.Restart.{read_run}
 use Rattle.store.specs.declared.faults.StoreFault.TheVariants.{Device}
 use Rattle.store.proofs.Recovery.{unread, were_read}
 use Rattle.store.proofs.calls.redo.Goals as goal

@@ -1,9 +1,9 @@
-use Rattle.std.proofs.Common.{◌≡◌, ℕ, ◌-◌, ◌≤◌, List, [], ◌∷◌, length, take, Ok, Err, Result, sym, refl, ap, ◌∙◌, subst, arith, rules}
+use Rattle.std.proofs.Common.{◌≡◌, ℕ, ◌-◌, ◌≤◌, List, [], ◌∷◌, length, take, Ok, Err, sym, refl, ap, ◌∙◌, arith, rules}
 use Rattle.config.specs.Configs.{used}
 use Rattle.config.specs.declared.entry.Entry.{Entry}
-use Rattle.device.specs.Accesses.{Carried, all}
+use Rattle.device.specs.Accesses.{all}
 use Rattle.journal.specs.Layout.{Pages, home_pages}
-use Rattle.journal.specs.Plans.{Write, as_writes, changes, changed, targets, pages, journalled, commit_plan}
+use Rattle.journal.specs.Plans.{Write, changes, changed, targets, pages, journalled, commit_plan}
 use Rattle.journal.specs.Restart.{paired}
 use Rattle.journal.proofs.Found.{paired_parts}
 use Rattle.journal.proofs.Steps.{changes_rows}

@@ -1,4 +1,4 @@
-use Rattle.std.proofs.Common.{◌≡◌, ℕ, suc, ◌+◌, ◌-◌, ◌<◌, ◌≤◌, List, [], ◌∷◌, ◌++◌, length, get_or, take, drop, set, sym, ap, ◌∙◌, subst, add-one, arith, length-set, drop-set-lt}
+use Rattle.std.proofs.Common.{◌≡◌, ℕ, ◌+◌, ◌-◌, ◌<◌, List, [], ◌∷◌, ◌++◌, length, get_or, take, drop, set, sym, ap, ◌∙◌, subst, arith, length-set, drop-set-lt}
 use Rattle.std.proofs.lemmas.List.{take_more, take_more_set, drop-drop, length-take-le}
 use Rattle.journal.specs.Layout.{zeros}
 use Rattle.journal.proofs.Steps.{header_whole, drop_zeros}

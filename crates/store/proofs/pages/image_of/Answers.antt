@@ -1,9 +1,8 @@
-use Rattle.std.proofs.Common.{◌≡◌, ℕ, ◌-◌, ◌*◌, ◌≤◌, List, ◌++◌, length, take, Ok, Err, Result, ap, ◌∙◌, arith}
+use Rattle.std.proofs.Common.{◌≡◌, ℕ, ◌-◌, ◌*◌, ◌≤◌, List, ◌++◌, length, Ok, Err, Result, ◌∙◌, arith}
 use lib.ListN.{length-replicate}
 use Rattle.std.proofs.lemmas.List.{length-take-le}
 use Rattle.config.specs.Configs.{used}
 use Rattle.config.specs.Images.{image, Encoded}
-use Rattle.config.specs.declared.config.Config.{Config}
 use Rattle.config.specs.declared.entry.Entry.{Entry}
 use Rattle.config.proofs.Images.{length_image}
 use Rattle.journal.specs.Layout.{zeros}

@@ -1,5 +1,4 @@
 use Rattle.std.proofs.Common.{◌≡◌, ◌+◌, ◌*◌, ◌<◌, length, ap, ◌∙◌, arith}
-use Rattle.config.specs.Configs.{used}
 use Rattle.config.specs.Images.{image}
 use Rattle.config.proofs.Images.{length_image}
 use Rattle.config.proofs.Places.{used_length}

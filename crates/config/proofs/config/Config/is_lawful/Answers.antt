@@ -1,4 +1,4 @@
-use Rattle.std.proofs.Common.{◌≡◌, ◌<◌, length, get_or, sym, subst, arith, below_more}
+use Rattle.std.proofs.Common.{◌<◌, length, get_or, sym, subst, arith, below_more}
 use Rattle.std.proofs.lemmas.Bool.{false≢true}
 use Rattle.schema.specs.Nodes.{nodes}
 use Rattle.config.specs.declared.entry.Entry.{Entry}

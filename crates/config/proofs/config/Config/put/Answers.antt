@@ -1,7 +1,4 @@
-use Rattle.std.proofs.Common.{◌≡◌, ◌≤◌, length, refl, arith, rules}
-use Rattle.table.specs.Table.{PutIn}
-use Rattle.config.specs.Order.{path_sooner}
-use Rattle.config.specs.Configs.{path_of}
+use Rattle.std.proofs.Common.{◌≤◌, refl, arith, rules}
 use Rattle.config.proofs.Order.{rises, rising_from}
 use Rattle.config.proofs.config.Config.put.Goals as goal
 

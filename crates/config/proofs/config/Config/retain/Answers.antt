@@ -1,4 +1,4 @@
-use Rattle.std.proofs.Common.{◌≡◌, ◌<◌, ◌≤◌, length, sym, ◌∙◌, arith}
+use Rattle.std.proofs.Common.{◌≡◌, ◌<◌, length, sym, ◌∙◌, arith}
 use Rattle.config.proofs.Kept.{kept_rises, retained, turn_no, turn_yes}
 use Rattle.config.proofs.config.Config.retain.Goals as goal
 use Rattle.config.proofs.config.Config.retain.Goals.{then-keeps, else-keeps}

@@ -1,4 +1,4 @@
-use Rattle.std.proofs.Common.{◌≡◌, ℕ, true, false, is_ok, Err, sym, refl, ap, ◌∙◌, subst, arith, rules}
+use Rattle.std.proofs.Common.{◌≡◌, ℕ, false, is_ok, Err, refl, ap, ◌∙◌, subst, arith, rules}
 use Rattle.edit.specs.Lists.{ListRead}
 use Rattle.model.specs.Acts.{nodes_of}
 use Rattle.engine.specs.Seen.{seen}

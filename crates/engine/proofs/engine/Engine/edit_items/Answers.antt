@@ -1,4 +1,4 @@
-use Rattle.std.proofs.Common.{◌≡◌, Ok, Result, sym, refl, ap, ◌∙◌, subst}
+use Rattle.std.proofs.Common.{Result, sym, refl, ap, subst}
 use Rattle.schema.specs.declared.typed.Schema.{Schema}
 use Rattle.schema.specs.declared.typed.SchemaFault.{SchemaFault}
 use Rattle.edit.specs.Lists.{items}

@@ -1,10 +1,10 @@
-use Rattle.std.proofs.Common.{◌≡◌, is_ok, Some, Ok, Result, sym, refl, ap, ◌∙◌, subst}
+use Rattle.std.proofs.Common.{is_ok, Some, Result, sym, ap, subst}
 use Rattle.schema.specs.declared.typed.Schema.{Schema}
 use Rattle.schema.specs.declared.typed.SchemaFault.{SchemaFault}
 use Rattle.config.specs.Configs.{used}
 use Rattle.model.specs.Acts.{Formatting}
 use Rattle.engine.specs.Performing.{answered}
-use Rattle.engine.specs.Seen.{device_of, seen}
+use Rattle.engine.specs.Seen.{seen}
 use Rattle.engine.proofs.engine.Engine.format.Goals as goal
 
 pub returns-in-Ok-read : goal.returns-in-Ok-read

@@ -1,4 +1,4 @@
-use Rattle.std.proofs.Common.{◌≡◌, ℕ, ◌-◌, ◌≤◌, List, ◌++◌, length, drop, replicate, None, Ok, Option, Result, sym, refl, ap, ◌∙◌, subst, arith}
+use Rattle.std.proofs.Common.{◌≡◌, ℕ, ◌-◌, ◌≤◌, List, ◌++◌, length, drop, replicate, Ok, Option, sym, refl, ap, ◌∙◌, subst, arith}
 use Rattle.std.proofs.lemmas.List.{length-take-le}
 use Rattle.config.specs.Configs.{used}
 use Rattle.config.specs.Images.{image, Encoded}
@@ -10,7 +10,7 @@ use Rattle.journal.proofs.Steps.{drop_zeros}
 use Rattle.calls.specs.declared.call.Answer.TheVariants.{Shown}
 use Rattle.calls.specs.declared.call.Image.{Image}
 use Rattle.calls.specs.declared.faults.EngineFault.{EngineFault}
-use Rattle.model.specs.Model.{Model, contents}
+use Rattle.model.specs.Model.{contents}
 use Rattle.model.specs.Steps.{GetsUnless, Shows}
 use Rattle.engine.specs.Seen.{seen}
 use Rattle.engine.proofs.engine.Engine.show.Goals as goal

@@ -1,4 +1,4 @@
-use Rattle.std.proofs.Common.{ap, ◌∙◌, arith, rules}
+use Rattle.std.proofs.Common.{ap, ◌∙◌, rules}
 use Rattle.schema.specs.Depth.{two_deep}
 use Rattle.schema.proofs.Depth.{nests}
 use Rattle.schema.proofs.typed.Schema.check.Goals as goal
