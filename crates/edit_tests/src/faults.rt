@@ -50,7 +50,7 @@ fn hold(rt: &impl Abort, heap: Global, cases: &[Case]) -> Result<(), Fail> {
                 [number, 3, 0, 3, kept, u32::from(node), k1, k2],
                 "{step:?}"
             );
-            has_keys_to(rt, &config, last, rest).note(format_args!("{step:?}, kept {kept}"))?;
+            has_keys_to(rt, &config, last, rest, &(step, kept))?;
         }
     }
     Ok(())

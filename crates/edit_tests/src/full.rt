@@ -50,7 +50,7 @@ fn follow(rt: &impl Abort, first: Numbers, last: u32, cases: &[Case]) -> Result<
             Err(fault) => fault.number(),
         };
         assert_eq!(rt; told, number, "{step:?}");
-        has_keys_to(rt, &config, last, rest).note(format_args!("{step:?}"))?;
+        has_keys_to(rt, &config, last, rest, &step)?;
     }
     Ok(())
 }

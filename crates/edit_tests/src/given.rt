@@ -4,6 +4,7 @@ use edit::{EditFault, EditList, Item};
 use fault::Report;
 use schema::{NodeRow, Path, Schema};
 use std::alloc::{AllocError, Global};
+use std::fmt::Debug;
 use std::process::Abort;
 use std::test::Fail;
 
@@ -77,15 +78,23 @@ pub(super) fn config(rt: &impl Abort, entries: &[Numbers]) -> Config {
     config
 }
 
-// The configuration has these entries and no others.
-pub(super) fn has(rt: &impl Abort, config: &Config, expected: &[Numbers]) -> Result<(), Fail> {
+// The configuration has these entries and no others. The step is told where it has not.
+pub(super) fn has(
+    rt: &impl Abort,
+    config: &Config,
+    expected: &[Numbers],
+    step: &impl Debug,
+) -> Result<(), Fail> {
     let entries = config.entries();
-    assert!(rt; entries.len() == expected.len(), "how many entries");
+    assert!(rt;
+        entries.len() == expected.len(),
+        "{step:?}: how many entries"
+    );
     for i in 0..entries.len() {
         let Some(numbers) = expected.get(i) else {
             return Err(Fail::new("an entry too many"));
         };
-        assert!(rt; entries[i] == entry(*numbers), "place {i}");
+        assert!(rt; entries[i] == entry(*numbers), "{step:?}: place {i}");
     }
     Ok(())
 }
@@ -108,12 +117,13 @@ pub(super) fn has_keys_to(
     config: &Config,
     last: u32,
     rest: &[Numbers],
+    step: &impl Debug,
 ) -> Result<(), Fail> {
     let mut expected = keys_to(rt, last);
     for numbers in rest {
         assert!(rt; expected.put(entry(*numbers)).is_ok(), "there is a place");
     }
-    assert!(rt; *config == expected);
+    assert!(rt; *config == expected, "{step:?}");
     Ok(())
 }
 

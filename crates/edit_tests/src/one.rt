@@ -30,7 +30,7 @@ pub(super) fn hold(rt: &impl Abort, cases: &[Case]) -> Result<(), Fail> {
             Err(fault) => fault.number(),
         };
         assert_eq!(rt; told, number, "{step:?}");
-        has(rt, &config, after).note(format_args!("{step:?}"))?;
+        has(rt, &config, after, &step)?;
     }
     Ok(())
 }

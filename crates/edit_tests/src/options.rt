@@ -40,7 +40,7 @@ fn hold(
             [number, layer, 0, item, kept, node, k1, k2],
             "option {i}"
         );
-        has(rt, &config, after).note(format_args!("option {i}"))?;
+        has(rt, &config, after, &i)?;
     }
     Ok(())
 }

@@ -114,7 +114,7 @@ fn one_after_another(rt: HostRuntime) -> Result<(), Fail> {
     for case in STEPS {
         let (step, after) = case;
         assert!(rt; apply(&schema, &mut config, item(step)).is_ok(), "{step:?}");
-        has(&rt, &config, after).note(format_args!("{step:?}"))?;
+        has(&rt, &config, after, &step)?;
     }
     Ok(())
 }
