@@ -6,7 +6,7 @@ use Rattle.std.proofs.lemmas.List.{get_or-take, length-take-le, get_or-set_same,
 use Rattle.std.proofs.lemmas.Nat.{and_mask, and_comm}
 use Rattle.std.proofs.ByRecursion.{All-append, All-take}
 use Rattle.std.proofs.lemmas.Bool.{eq-eqb, ne_eqb, cond-true, cond-false, cases_eq}
-use Rattle.std.specs.List.{AllByRecursion as All}
+use Rattle.std.specs.List.{AllByRecursion}
 use Rattle.device.specs.declared.Block.TheVariants.{Good, Damaged}
 use Rattle.supply.proofs.Cells.{blocks_spliced, cell_here, outside, length_spliced}
 use Rattle.flash.specs.Cell.{cell, good, content, blocks_of, ByteWrite, erasing, programming, one_done, all_done, erases_from, programs_from, steps, cell_after, bytes_after, EveryCut, Bytewise, InOrder}
@@ -30,16 +30,16 @@ one_elsewhere : (w : ByteWrite) (c : List ℕ) (j d : ℕ) → j ≢ place w →
 one_elsewhere (erasing at) c j d n = get_or-set_other c at j 255 d n
 one_elsewhere (programming at b) c j d n = get_or-set_other c at j (bit_and (slice_index c at) b) d n
 
-pub elsewhere : (ws : List ByteWrite) (c : List ℕ) (j d : ℕ) → All (λ w. j ≢ place w) ws → slice_index_or (all_done ws c) j d ≡ slice_index_or c j d
+pub elsewhere : (ws : List ByteWrite) (c : List ℕ) (j d : ℕ) → AllByRecursion (λ w. j ≢ place w) ws → slice_index_or (all_done ws c) j d ≡ slice_index_or c j d
 elsewhere [] c j d n = refl
 elsewhere (w ∷ ws) c j d n = elsewhere ws (one_done w c) j d n.1 ∙ one_elsewhere w c j d n.0
 
-erases_off : (at n j : ℕ) → (j < at) ⊎ (at + n ≤ j) → All (λ w. j ≢ place w) (erases_from at n)
+erases_off : (at n j : ℕ) → (j < at) ⊎ (at + n ≤ j) → AllByRecursion (λ w. j ≢ place w) (erases_from at n)
 erases_off at zero j h = tt
 erases_off at (suc n) j (inl h) = ((λ e. omega arith), erases_off (at + 1) n j (inl (omega arith)))
 erases_off at (suc n) j (inr h) = ((λ e. omega arith), erases_off (at + 1) n j (inr (omega arith)))
 
-programs_off : (at : ℕ) (bs : List ℕ) (j : ℕ) → (j < at) ⊎ (at + length bs ≤ j) → All (λ w. j ≢ place w) (programs_from at bs)
+programs_off : (at : ℕ) (bs : List ℕ) (j : ℕ) → (j < at) ⊎ (at + length bs ≤ j) → AllByRecursion (λ w. j ≢ place w) (programs_from at bs)
 programs_off at [] j h = tt
 programs_off at (b ∷ bs) j (inl h) = ((λ e. omega arith), programs_off (at + 1) bs j (inl (omega arith)))
 programs_off at (b ∷ bs) j (inr h) = ((λ e. omega arith), programs_off (at + 1) bs j (inr (omega arith)))
@@ -101,7 +101,7 @@ module _ (payload : List ℕ) (size : length payload ≡ 32) where
   pub length_steps : length (steps payload) ≡ 66
   length_steps = ap length steps_are ∙ omega (arith, length_push (middle payload) (programming 32 0), length_middle)
 
-  mark_free : All (λ w. 32 ≢ place w) (middle payload)
+  mark_free : AllByRecursion (λ w. 32 ≢ place w) (middle payload)
   mark_free = All-append (λ w. 32 ≢ place w) (erases_from 0 32) (programs_from 0 payload) (erases_off 0 32 32 (inr (omega arith))) (programs_off 0 payload 32 (inr (omega arith)))
 
   -- after the first byte write and before the last the mark is erased
@@ -166,7 +166,7 @@ tears c payload l size fits =
     }
 
 -- all byte writes are to the cell
-inside_cell : (payload : List ℕ) (size : length payload ≡ 32) (j : ℕ) → 33 ≤ j → All (λ w. j ≢ place w) (steps payload)
+inside_cell : (payload : List ℕ) (size : length payload ≡ 32) (j : ℕ) → 33 ≤ j → AllByRecursion (λ w. j ≢ place w) (steps payload)
 inside_cell payload size j h = (
   (λ e. omega arith),
   All-append (λ w. j ≢ place w) (erases_from 0 32) (programs_from 0 payload ++ programming 32 0 ∷ []) (erases_off 0 32 j (inr (omega arith)))
@@ -184,19 +184,19 @@ take_one : (n : ℕ) (w : ByteWrite) (c : List ℕ) → place w < n → take n (
 take_one n (erasing at) c h = take_set_in n c at 255 h
 take_one n (programming at b) c h = take_set_in n c at (bit_and (slice_index c at) b) h ∙ ap (λ (x : ℕ). set (take n c) at (bit_and x b)) (sym (get_or-take n c at 0 h))
 
-take_done : (n : ℕ) (ws : List ByteWrite) (c : List ℕ) → All (λ w. place w < n) ws → take n (all_done ws c) ≡ all_done ws (take n c)
+take_done : (n : ℕ) (ws : List ByteWrite) (c : List ℕ) → AllByRecursion (λ w. place w < n) ws → take n (all_done ws c) ≡ all_done ws (take n c)
 take_done n [] c h = refl
 take_done n (w ∷ ws) c h = take_done n ws (one_done w c) h.1 ∙ ap (all_done ws) (take_one n w c h.0)
 
-erases_in : (at n m : ℕ) → at + n ≤ m → All (λ w. place w < m) (erases_from at n)
+erases_in : (at n m : ℕ) → at + n ≤ m → AllByRecursion (λ w. place w < m) (erases_from at n)
 erases_in at zero m h = tt
 erases_in at (suc n) m h = (omega arith, erases_in (at + 1) n m (omega arith))
 
-programs_in : (at : ℕ) (bs : List ℕ) (m : ℕ) → at + length bs ≤ m → All (λ w. place w < m) (programs_from at bs)
+programs_in : (at : ℕ) (bs : List ℕ) (m : ℕ) → at + length bs ≤ m → AllByRecursion (λ w. place w < m) (programs_from at bs)
 programs_in at [] m h = tt
 programs_in at (b ∷ bs) m h = (omega arith, programs_in (at + 1) bs m (omega arith))
 
-steps_in : (payload : List ℕ) → length payload ≡ 32 → All (λ w. place w < 33) (steps payload)
+steps_in : (payload : List ℕ) → length payload ≡ 32 → AllByRecursion (λ w. place w < 33) (steps payload)
 steps_in payload size = (
   omega arith,
   All-append (λ w. place w < 33) (erases_from 0 32) (programs_from 0 payload ++ programming 32 0 ∷ []) (erases_in 0 32 33 (omega arith))
