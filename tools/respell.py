@@ -3,8 +3,9 @@
 
 usage: python3 tools/respell.py      at the top of the repository, once, after the kit's port.py
 
-A name counts as the repository's own where a file of specs/ or proofs/ declares it, or imports something as it, and it has a dash. Functions of src/, text
-in quotes and names that the prover makes (those of goals and of steps, which follow `c.`, `w.`, `l.`, `g.` or `goal.`) stay.
+A name counts as the repository's own where a file of specs/ or proofs/ declares it, or imports something as it, and it has a
+dash. Functions of src/, text in quotes and names that the prover makes (those of goals and of steps, which follow `c.`, `w.`,
+`l.`, `g.` or `goal.`) stay.
 """
 
 import os

@@ -1,5 +1,5 @@
 // Edit lists.
-ghost use Rattle.std.specs.Prelude.{◌≡◌, ◌≤◌, length};
+ghost use Rattle.std.specs.Prelude.{◌≡◌};
 ghost use Rattle.encoding.specs.Counts.{Encoded};
 ghost use Rattle.edit.specs.Items.{item_form};
 ghost use Rattle.edit.specs.Lists.{ListRead, items};

@@ -1,7 +1,7 @@
 // Counted lists of records.
 ghost use Rattle.encoding.specs.Counts.{CountRead, Decoded, Encoded, OfForm, SlotRead, SlotsKnown};
 ghost use Rattle.encoding.specs.declared.form.Form.{Form};
-ghost use Rattle.std.specs.Prelude.{◌≡◌, ◌+◌, ◌*◌, ◌<◌, ◌≤◌, length, MatchOption};
+ghost use Rattle.std.specs.Prelude.{◌≡◌, ◌+◌, ◌*◌, ◌<◌, ◌≤◌, length};
 
 use crate::form::Form;
 

@@ -2,7 +2,7 @@
 // when the mark is 0x00. Erasing a byte gives 0xFF, and programming one only clears bits.
 #![tactic(auto)]
 
-ghost use Rattle.std.specs.Prelude.{◌≡◌, ℕ, ◌+◌, ◌*◌, ◌/◌, ◌<◌, ◌≤◌, true, false, [], ◌∷◌, length, take, vec_len, slice_index_or};
+ghost use Rattle.std.specs.Prelude.{◌≡◌, ◌+◌, ◌*◌, ◌/◌, ◌<◌, ◌≤◌, true, false, [], ◌∷◌, length, take, vec_len, slice_index_or};
 ghost use Rattle.std.proofs.Common.{ap};
 ghost use Rattle.supply.specs.Budget.{is_on};
 ghost use Rattle.device.specs.declared.Block.TheVariants.{Damaged as Spoiled};

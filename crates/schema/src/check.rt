@@ -1,5 +1,5 @@
 // Which rows make a schema.
-ghost use Rattle.std.specs.Prelude.{◌≡◌, ◌≤◌, length, Decides, MatchOption};
+ghost use Rattle.std.specs.Prelude.{◌≡◌, Decides, MatchOption};
 ghost use Rattle.fault.specs.Reports.{at_path, plain};
 ghost use Rattle.schema.specs.Checks.{Answered, FirstBad};
 ghost use Rattle.schema.specs.Nodes.{filled};

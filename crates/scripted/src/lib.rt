@@ -1,7 +1,7 @@
 // Devices for tests: one with a scripted outcome for each access, and one that only loses power. Both keep the power rule.
 #![tactic(auto)]
 
-ghost use Rattle.std.specs.Prelude.{◌≡◌, false, length, drop};
+ghost use Rattle.std.specs.Prelude.{◌≡◌, false, drop};
 ghost use Rattle.scripted.specs.Script.{is_done, left_by, outcome_of};
 ghost use Rattle.scripted.specs.Steps.{scripted_blocks, script_left, ScriptedRaises, ScriptedReads, ScriptedWrites};
 ghost use Rattle.scripted.specs.Rule as rule;
