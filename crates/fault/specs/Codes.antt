@@ -9,4 +9,4 @@ StandsFor {C} number n None = (c : C) → number c ≢ n
 -- the same of a conversion: the number stands for the case that it gives, or for none, and then the error tells the number
 abbrev pub Named : {C E : Type 0} → (C → ℕ) → (E → ℕ) → ℕ → Result C E → Type 0
 Named number told n (Ok c) = StandsFor number n (Some c)
-Named {C} number told n (Err e) = StandsFor {C} number n None × (told e ≡ n)
+Named number told n (Err e) = StandsFor number n None × (told e ≡ n)
