@@ -1,5 +1,6 @@
 -- The rule of a table of refusal numbers, by one test over the whole table.
-use Rattle.std.proofs.Common.{◌≡◌, ℕ, Bool, true, false, cond, not, ◌&&◌, ◌||◌, eqb, List, [], ◌∷◌, map, Some, None, Option, sym, refl, ap, ◌∙◌, subst, ⊎_elim}
+use Rattle.std.specs.Prelude.{MatchOption}
+use Rattle.std.proofs.Common.{rules, ◌≡◌, ℕ, Bool, true, false, cond, not, ◌&&◌, ◌||◌, eqb, List, [], ◌∷◌, map, Some, None, Option, sym, refl, ap, ◌∙◌, subst, ⊎_elim}
 use Rattle.std.proofs.lemmas.Bool.{and_parts, or_cases, both_ways, not-true, cond_both, eqb-true, eqb-false}
 use Rattle.fault.specs.declared.Layer.{Layer}
 use Rattle.fault.specs.declared.Layer.TheVariants.{Session, Configuration, Store, Device}
@@ -118,3 +119,11 @@ at_none n none =
     (λ _. cond_both (has n (numbers Store)) _ _ (λ k. 0 ≡ k) (λ h. absurd (none Store h))
     (λ _. cond_both (has n (numbers Device)) _ _ (λ k. 0 ≡ k) (λ h. absurd (none Device h))
     (λ _. refl))))
+
+-- what is 0 without a layer, and else the layer's number, is the number of a number's layer
+pub layer_told : (n k : ℕ) (o : Option Layer) → OneLayer n o → MatchOption o (k ≡ 0) (λ l. k ≡ layer_number l) → k ≡ layer_at n
+layer_told n k None none e = e ∙ at_none n none
+layer_told n k (Some Session) one e = search (rules, one, e)
+layer_told n k (Some Configuration) one e = search (rules, one, e)
+layer_told n k (Some Store) one e = search (rules, one, e)
+layer_told n k (Some Device) one e = search (rules, one, e)

@@ -91,10 +91,7 @@ pub fn layer_of(number: u32) -> Option<Layer>
 fn layer_number(number: u32) -> u32
     ensures { result ≡ layer_at number }
 {
-    match layer_of(number) {
-        Some(layer) => layer.number(),
-        None => 0,
-    }
+    layer_of(number).map_or(0, |layer| layer.number())
 }
 
 // How a refusal is told. A field without use is 0.
@@ -151,6 +148,23 @@ impl Report {
             k2,
             ..self
         }
+    }
+
+    // The eight numbers in their order.
+    pub fn fields(self) -> [u32; 8]
+        ensures { result ≡ fields self }
+    {
+        let Report {
+            number,
+            layer,
+            cause,
+            item,
+            kept,
+            node,
+            k1,
+            k2,
+        } = self;
+        [number, layer, cause, item, kept, node, k1, k2]
     }
 }
 
