@@ -1,7 +1,7 @@
 // An edit list under each error option, and the verdict on what it leaves.
-use crate::show_entries;
 use config::Config;
 use edit::{EditList, ErrorOption, edit};
+use sample::Listed;
 use schema::Schema;
 use validate::{SchemaRules, Validator};
 
@@ -26,7 +26,7 @@ fn show_option(
         Ok(()) => println!(rt; "edit with option {number}: ok")?,
         Err(fault) => println!(rt; "edit with option {number}: no {}", fault.report())?,
     }
-    show_entries(rt, &config)?;
+    print!(rt; "{}", Listed(&config))?;
     let rules = SchemaRules { schema: *schema };
     match rules.check(&config) {
         Ok(()) => println!(rt; "  valid")?,

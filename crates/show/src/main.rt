@@ -9,55 +9,11 @@ mod edits;
 use amend::{Amended, Change, amend};
 use config::{Config, Entry};
 use fault::Report;
-use schema::{NodeRow, Path, Schema};
-
-// Node 1 is the list of interfaces, with keys 1 to 9 and at most 3 entries. Node 2 is the mandatory MTU of an interface, 64
-// to 1500. Node 3 is the uplink, 1 to 9, which has to be the key of an interface.
-const ROWS: [NodeRow; 3] = [
-    NodeRow {
-        kind: 1,
-        parent: 0,
-        lo: 1,
-        hi: 9,
-        mandatory: 0,
-        reference: 0,
-        maximum: 3,
-    },
-    NodeRow {
-        kind: 2,
-        parent: 1,
-        lo: 64,
-        hi: 1500,
-        mandatory: 1,
-        reference: 0,
-        maximum: 0,
-    },
-    NodeRow {
-        kind: 2,
-        parent: 0,
-        lo: 1,
-        hi: 9,
-        mandatory: 0,
-        reference: 1,
-        maximum: 0,
-    },
-];
-
-// Interface 4 with MTU 1500.
-const IMAGE: [u8; 33] = [
-    2, 1, 0, 0, 0, 0, 0, 0, 4, 0, 0, 0, 0, 0, 0, 0, 0, 2, 0, 0, 0, 0, 0, 0, 4, 0, 0, 0, 0, 0, 0, 5,
-    220,
-];
+use sample::{IMAGE, Listed, ROWS};
+use schema::{Path, Schema};
 
 fn path(node: u8, k1: u32) -> Path {
     Path { node, k1, k2: 0 }
-}
-
-pub(crate) fn show_entries(rt: &impl Print, config: &Config) -> anyhow::Result<()> {
-    for entry in config.entries() {
-        println!(rt; "  {}", *entry)?;
-    }
-    Ok(())
 }
 
 fn show_bytes(rt: &impl Print, bytes: &[u8]) -> anyhow::Result<()> {
@@ -80,7 +36,7 @@ fn show_amended(rt: &impl Print, amended: Amended) -> anyhow::Result<()> {
     if let Some(entry) = amended.taken {
         println!(rt; "taken out {entry}")?;
     }
-    show_entries(rt, &amended.config)?;
+    print!(rt; "{}", Listed(&amended.config))?;
     let length = amended.length.min(769);
     println!(rt; "image of {length} bytes")?;
     show_bytes(rt, &amended.image[0..length])
@@ -124,8 +80,7 @@ fn run<R: Print + AllocGlobal>(rt: &R) -> anyhow::Result<()> {
         Ok(config) => config,
         Err(fault) => return show_refusal(rt, "image", fault.report()),
     };
-    println!(rt; "configuration")?;
-    show_entries(rt, &config)?;
+    print!(rt; "configuration\n{}", Listed(&config))?;
     change(rt, &schema, config)?;
     refusals(rt, &schema)?;
     edits::show_edits(rt, &schema, config)?;

@@ -1,10 +1,10 @@
 // A configuration stored on each device and replaced by another while power fails, and recovered while power fails again.
-use crate::show_entries;
 use config::{Config, Entry};
 use device::Device;
 use flash::Flash;
 use image::Image;
 use mirror::Mirror;
+use sample::Listed;
 use schema::{Path, Schema};
 use std::alloc::{AllocError, Global};
 use store::StoreFault;
@@ -47,8 +47,8 @@ fn show_recovery<D: Device>(
 ) -> anyhow::Result<()> {
     match store::recover(device, schema) {
         Ok(config) => {
-            println!(rt; "  recover ok")?;
-            show_entries(rt, &config)
+            print!(rt; "  recover ok\n{}", Listed(&config))?;
+            Ok(())
         }
         Err(fault) => show_fault(rt, "recover", fault),
     }
