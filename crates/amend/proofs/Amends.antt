@@ -1,26 +1,23 @@
 -- A change from the steps that it is made of.
-use Rattle.std.proofs.Common.{◌≡◌, ℕ, ◌<◌, true, false, List, ◌++◌, length, drop, replicate, is_err, Ok, Err, Option, Result, sym, refl, ap, ◌∙◌, arith}
+use Rattle.std.proofs.Common.{◌≡◌, ℕ, ◌<◌, List, ◌++◌, length, drop, replicate, Ok, Err, Option, Result, sym, refl, ap, ◌∙◌, arith}
 use Rattle.std.specs.Result.{result_unwrap_or}
 use Rattle.std.proofs.lemmas.List.{drop-replicate}
-use Rattle.std.proofs.lemmas.Bool.{both_ways}
 use Rattle.schema.specs.Paths.{entry_answer}
 use Rattle.schema.specs.declared.nodes.Node.{Node}
-use Rattle.config.specs.Configs.{found, used, without_entry, PutAnswer, TakeAnswer}
+use Rattle.config.specs.Configs.{found, used, without_entry, EntryPut, TakeAnswer}
 use Rattle.config.specs.Images.{image, Encoded}
 use Rattle.config.specs.declared.config.Config.{Config}
-use Rattle.config.specs.declared.config.Full.{Full}
 use Rattle.config.specs.declared.entry.Entry.{Entry}
-use Rattle.config.specs.declared.image.ShortOutput.{ShortOutput}
 use Rattle.amend.specs.declared.Change.{Change}
 use Rattle.amend.specs.Amends.{Made}
 
 -- an output of 769 bytes takes every image
-encoded : (c : Config) (out : List ℕ) (r : Result ℕ ShortOutput) → Encoded (used c) (replicate 769 0) out r → (result_unwrap_or r 0 ≡ length (image (used c))) × (out ≡ image (used c) ++ drop (result_unwrap_or r 0) (replicate 769 0))
+encoded : {F : Type 0} (c : Config) (out : List ℕ) (r : Result ℕ F) → Encoded (used c) (replicate 769 0) out r → (result_unwrap_or r 0 ≡ length (image (used c))) × (out ≡ image (used c) ++ drop (result_unwrap_or r 0) (replicate 769 0))
 encoded c out (Ok n) e = (e.1, e.2)
 encoded c out (Err f) e = let zeros : List ℕ = replicate 769 0 in let short : length zeros < 769 = e.0 in let size : length zeros ≡ 769 = refl in let never : ⊥ = omega arith in absurd never
 
-pub made : (ns : List Node) (c : Config) (x : Change) (put : Result Unit Full) (d : Config) (taken : Option Entry) (e : Config) (out : List ℕ) (written : Result ℕ ShortOutput) (n : ℕ) → entry_answer ns x.put.path x.put.value ≡ Ok tt → is_err put ≡ false → PutAnswer c x.put d put → TakeAnswer d x.gone e taken → Encoded (used e) (replicate 769 0) out written → n ≡ result_unwrap_or written 0 → Made ns c x (record { config = e; taken = taken; image = out; length = n })
-made ns c x (Ok done) d taken e out written n fits ok p t w is =
+pub made : {F : Type 0} (ns : List Node) (c : Config) (x : Change) (d : Config) (taken : Option Entry) (e : Config) (out : List ℕ) (written : Result ℕ F) (n : ℕ) → entry_answer ns x.put.path x.put.value ≡ Ok tt → EntryPut (used c) x.put (used d) → TakeAnswer d x.gone e taken → Encoded (used e) (replicate 769 0) out written → n ≡ result_unwrap_or written 0 → Made ns c x (record { config = e; taken = taken; image = out; length = n })
+made ns c x d taken e out written n fits p t w is =
     let size = encoded e out written w in
     record {
       fits = fits;
@@ -29,4 +26,3 @@ made ns c x (Ok done) d taken e out written n fits ok p t w is =
       size = is ∙ size.0;
       bytes = size.1 ∙ ap (λ k. image (used e) ++ drop k (replicate 769 0)) (sym is) ∙ ap (λ l. image (used e) ++ l) (drop-replicate n 769 0);
     }
-made ns c x (Err full) d taken e out written n fits ok p t w is = absurd (both_ways true ok refl)

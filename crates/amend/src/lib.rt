@@ -7,7 +7,7 @@ ghost use Rattle.schema.specs.Nodes.{nodes};
 ghost use Rattle.schema.specs.Paths.{fault_number};
 ghost use Rattle.std.specs.Prelude.{◌≡◌};
 
-use config::{Config, Entry};
+use config::{Config, Entry, Full};
 use fault::Report;
 use schema::{Path, PathFault, Schema};
 
@@ -23,28 +23,45 @@ pub struct Change {
 pub struct Amended {
     pub config: Config,
     pub taken: Option<Entry>,
+    // No heap: the buffer has room for every image, and its length stands beside it.
     pub image: [u8; 769],
     pub length: usize,
 }
 
 // Why a change is refused: the entry to put in is unlawful, or there is no place for it.
-#[derive(Clone, Copy)]
+#[derive(Clone, Copy, PartialEq, Eq, Debug)]
 pub enum ChangeFault {
     Entry(PathFault),
     Full,
+}
+
+impl From<PathFault> for ChangeFault {
+    ghost use Rattle.amend.specs.declared.ChangeFault.TheVariants.{Entry as unlawful};
+
+    ghost from_gives = { λ fault r. r ≡ unlawful fault };
+
+    fn from(fault: PathFault) -> Self {
+        ChangeFault::Entry(fault)
+    }
+}
+
+impl From<Full> for ChangeFault {
+    ghost use Rattle.amend.specs.declared.ChangeFault.TheVariants.{Full as no_place};
+
+    ghost from_gives = { λ full r. r ≡ no_place };
+
+    fn from(_: Full) -> Self {
+        ChangeFault::Full
+    }
 }
 
 // Makes the change in a copy of the configuration.
 pub fn amend(schema: &Schema, before: Config, change: Change) -> Result<Amended, ChangeFault>
     ensures { Answered (nodes schema.now) before change result }
 {
-    if let Err(fault) = schema.check_entry(change.put.path, change.put.value) {
-        return Err(ChangeFault::Entry(fault));
-    }
+    schema.check_entry(change.put.path, change.put.value)?;
     let mut config = before;
-    if config.put(change.put).is_err() {
-        return Err(ChangeFault::Full);
-    }
+    config.put(change.put)?;
     let taken = config.take_out(change.gone);
     let mut image = [0u8; 769];
     let length = config.encode(&mut image).unwrap_or(0);
@@ -57,7 +74,7 @@ pub fn amend(schema: &Schema, before: Config, change: Change) -> Result<Amended,
 }
 
 impl ChangeFault {
-    // Refusal 7, 8, 9 or 34, at the path of the entry that was to be put in.
+    // Refusal 7, 8, 9 or 34, at the path of the entry that was to be put in. A method and no From, since it takes the path.
     pub fn report(self, path: Path) -> Report
         ensures { result ≡ at_path (plain (elim self [ ChangeFault.Entry f ↦ fault_number f | ChangeFault.Full ↦ 34 ])) path.node path.k1 path.k2 }
     {

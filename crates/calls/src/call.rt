@@ -1,15 +1,19 @@
 // A call as a value, and its answer.
+ghost use Rattle.calls.specs.Answers.{answered, shown};
+ghost use Rattle.std.specs.Prelude.{◌≡◌};
+
 use crate::faults::EngineFault;
 
 // The caller names the kind of a commit.
-#[derive(Clone, Copy)]
+#[derive(Clone, Copy, PartialEq, Eq, Debug)]
 pub enum CommitKind {
     Plain,
     Confirmed,
 }
 
-// Every call but format. Numbers are as the caller gives them. An edit lends its bytes, a get says how long its output is.
-#[derive(Clone, Copy)]
+// Every call but format. An edit lends its bytes, a get says how long its output is.
+// Numbers stay numbers, as the caller gives them: which of them is refused first is the rules' order, so they are read in the call.
+#[derive(Clone, Copy, PartialEq, Eq, Debug)]
 pub enum Call<'a> {
     Open {
         session: u32,
@@ -60,16 +64,41 @@ pub enum Call<'a> {
 }
 
 // The image of a datastore in the first `length` of 769 bytes; the others are zeros.
-#[derive(Clone, Copy)]
+// A buffer with its length beside it: fixed memory, without a heap.
+#[derive(Clone, Copy, PartialEq, Eq, Debug)]
 pub struct Image {
     pub bytes: [u8; 769],
     pub length: usize,
 }
 
 // What a call answers: it was performed, it was performed and shows a datastore, or it was refused.
-#[derive(Clone, Copy)]
+// No Result: an answer is recorded and not handed up, and each of the three has its name.
+#[derive(Clone, Copy, PartialEq, Eq, Debug)]
 pub enum Answer {
     Done,
     Shown(Image),
     Refused(EngineFault),
+}
+
+// The answer to a call that shows nothing, and to one that shows an image.
+impl From<Result<(), EngineFault>> for Answer {
+    ghost from_gives = { λ r a. a ≡ answered r };
+
+    fn from(outcome: Result<(), EngineFault>) -> Answer {
+        match outcome {
+            Ok(()) => Answer::Done,
+            Err(fault) => Answer::Refused(fault),
+        }
+    }
+}
+
+impl From<Result<Image, EngineFault>> for Answer {
+    ghost from_gives = { λ r a. a ≡ shown r };
+
+    fn from(outcome: Result<Image, EngineFault>) -> Answer {
+        match outcome {
+            Ok(image) => Answer::Shown(image),
+            Err(fault) => Answer::Refused(fault),
+        }
+    }
 }

@@ -1,41 +1,40 @@
--- A configuration's entries after one was taken out.
-use Rattle.std.proofs.Common.{◌≡◌, ℕ, ◌-◌, min, List, length, take, Some, None, sym, refl, subst, arith}
-use Rattle.table.specs.Table.{Rising, TakenOut}
-use Rattle.table.proofs.Rows.{lookup_take, lookup_take_other, without_absent}
+-- A configuration after an entry was put in or taken out, from what its table answered.
+use Rattle.std.proofs.Common.{◌≡◌, true, Ok, Err, Option, Result, sym, ap, ◌∙◌, subst}
+use Rattle.std.proofs.Math.Bool.{Bool-set}
+use Rattle.table.specs.declared.slots.Slots.{Slots}
+use Rattle.table.specs.Slots.{items, PutAnswer as TablePut, TakeAnswer as TableTake}
 use Rattle.schema.specs.declared.path.Path.{Path}
 use Rattle.config.specs.declared.entry.Entry.{Entry}
 use Rattle.config.specs.declared.config.Config.{Config}
-use Rattle.config.specs.Order.{path_sooner}
-use Rattle.config.specs.Configs.{found, path_of, used, without_entry, EntryTaken, TakeAnswer}
-use Rattle.config.proofs.Order.{rises, total}
+use Rattle.config.specs.Order.{path_sooner, rising}
+use Rattle.config.specs.Configs.{path_of, used, PutAnswer, TakeAnswer}
+use Rattle.config.proofs.Order.{rises, rising_from}
 
-pub taken : (c : Config) (p : Path) (e : Entry) (rows : List Entry) → (Rising path_of path_sooner (take c.count c.entries) → TakenOut path_of path_sooner c.entries c.count p e rows (min c.count (length c.entries) - 1)) → TakenOut path_of path_sooner c.entries c.count p e rows (c.count - 1)
-taken c p e rows h =
-    let same : min c.count (length c.entries) ≡ c.count = omega arith in
-    subst (λ n. TakenOut path_of path_sooner c.entries c.count p e rows (n - 1)) same (h (rises (take c.count c.entries) c.rises))
+config_of : (t : Slots Entry 48) → rising (items t) ≡ true → Config
+config_of t r = record { table = t; rises = r }
 
-pub left_out : (es : List Entry) (p : Path) → EntryTaken es p (without_entry es p)
-left_out es p =
+-- the table of a configuration says which one it is
+pub same_table : (c d : Config) → d.table ≡ c.table → d ≡ c
+unfolding config_of
+same_table c d e =
+    subst (λ (t : Slots Entry 48). (r : rising (items t) ≡ true) → config_of t r ≡ c) (sym e) (λ r. ap (config_of c.table) (Bool-set _ _ r c.rises)) d.rises
+
+pub put_rises : {E : Type 0} (c : Config) (e : Entry) (t : Slots Entry 48) (r : Result Unit E) → TablePut path_of path_sooner c.table e t r → rising (items t) ≡ true
+put_rises c e t (Ok done) h = rising_from (items t) (h (rises (used c) c.rises)).rising
+put_rises c e t (Err full) h = ap (λ s. rising (items s)) h.0 ∙ c.rises
+
+pub put_answer : {E : Type 0} (c : Config) (e : Entry) (d : Config) (r : Result Unit E) → TablePut path_of path_sooner c.table e d.table r → PutAnswer c e d r
+put_answer c e d (Ok done) h = let p = h (rises (used c) c.rises) in record { entries_are = p.rows_are; lookups = p.lookup_put }
+put_answer c e d (Err full) h = (h.1 (rises (used c) c.rises), same_table c d h.0)
+
+pub take_rises : (c : Config) (p : Path) (t : Slots Entry 48) (r : Option Entry) → TableTake path_of path_sooner c.table p t r → rising (items t) ≡ true
+take_rises c p t r h = rising_from (items t) (h.taken (rises (used c) c.rises)).rising
+
+pub take_answer : (c : Config) (p : Path) (d : Config) (r : Option Entry) → TableTake path_of path_sooner c.table p d.table r → TakeAnswer c p d r
+take_answer c p d r h =
+    let t = h.taken (rises (used c) c.rises) in
     record {
-      entries_are = refl;
-      lookups = record {
-        gone = lookup_take path_of path_sooner total es p;
-        others = λ k ne. lookup_take_other path_of path_sooner total es p k ne;
-      };
-    }
-
-pub not_there : (c : Config) (p : Path) → found (used c) p ≡ None → TakeAnswer c p c None
-not_there c p h =
-    record {
-      taken = sym h;
-      rest = subst (λ l. EntryTaken (used c) p l) (without_absent path_of path_sooner total (used c) p h) (left_out (used c) p);
-      absent = λ _. refl;
-    }
-
-pub went : (c : Config) (p : Path) (e : Entry) (d : Config) → TakenOut path_of path_sooner c.entries c.count p e d.entries (c.count - 1) → d.count ≡ c.count - 1 → TakeAnswer c p d (Some e)
-went c p e d t n =
-    record {
-      taken = sym t.was;
-      rest = subst (λ k. EntryTaken (used c) p (take k d.entries)) (sym n) (record { entries_are = t.rows_are; lookups = t.lookup_take });
-      absent = λ some. let z : ◌≡◌ {A = ℕ} 0 1 = cc in let never : ⊥ = omega arith in absurd never;
+      taken = h.was (rises (used c) c.rises);
+      rest = record { entries_are = t.rows_are; lookups = t.lookup_take };
+      absent = λ none. same_table c d (h.absent none);
     }

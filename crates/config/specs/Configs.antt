@@ -1,5 +1,6 @@
 -- A configuration as the list of its entries, and what it has at each path.
-use Rattle.std.specs.Prelude.{◌≡◌, ◌<◌, Bool, cond, List, length, take, None, Ok, Err, filter, Option, Result}
+use Rattle.std.specs.Prelude.{◌≡◌, ◌<◌, Bool, cond, List, length, None, Ok, Err, filter, Option, Result}
+use Rattle.table.specs.Slots.{items}
 use Rattle.table.specs.Table.{lookup, with_row, without, LookupPut, LookupTake}
 use Rattle.schema.specs.declared.path.Path.{Path}
 use Rattle.config.specs.declared.entry.Entry.{Entry}
@@ -8,7 +9,7 @@ use Rattle.config.specs.Order.{path_sooner}
 
 -- the entries in use
 abbrev pub used : Config → List Entry
-used c = take c.count c.entries
+used c = items c.table
 
 abbrev pub path_of : Entry → Path
 path_of e = e.path

@@ -4,9 +4,11 @@ ghost use Rattle.schema.specs.declared.path.Path.{Path};
 ghost use Rattle.std.specs.Prelude.{◌≡◌, Bool};
 
 use crate::config::Config;
+use crate::entries::UNUSED;
 use schema::Path;
+use table::Slots;
 
-// A choice of paths.
+// A choice of paths. No closure: its caller would have to show that every call of it is allowed.
 pub trait Choice {
     ghost chosen: { Self → Path → Bool };
 
@@ -19,15 +21,13 @@ impl Config {
     pub fn retain<C: Choice>(&mut self, choice: &C)
         ensures { Retained (C.Choice.chosen choice.now) (used self.old) (used self.new) }
     {
-        let mut entries = self.entries;
-        let mut count = 0;
-        for i in 0..self.count {
-            let entry = entries[i];
+        let mut kept = Slots::new(UNUSED);
+        for entry in self.entries() {
             if choice.keeps(entry.path) {
-                entries[count] = entry;
-                count += 1;
+                // There is room: no more are kept than there were.
+                let _ = kept.push(*entry);
             }
         }
-        *self = Config { entries, count };
+        *self = Config { table: kept };
     }
 }

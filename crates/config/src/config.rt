@@ -1,19 +1,14 @@
 // A configuration in fixed memory.
-ghost use Rattle.std.specs.Prelude.{◌≡◌, ◌≤◌, true, length, take};
+ghost use Rattle.std.specs.Prelude.{◌≡◌, true};
 ghost use Rattle.config.specs.Order.{rising};
+ghost use Rattle.table.specs.Slots.{items};
 
 use crate::entry::Entry;
+use table::Slots;
 
-// Up to 48 entries in strictly rising order of their paths, in the first places.
-#[derive(Clone, Copy)]
+// Up to 48 entries in strictly rising order of their paths.
+#[derive(Clone, Copy, PartialEq, Eq)]
 pub struct Config {
-    pub(crate) entries: [Entry; 48],
-    pub(crate) count: usize,
-    ghost whole: { length entries ≡ 48 },
-    ghost few: { count ≤ 48 },
-    ghost rises: { rising (take count entries) ≡ true },
+    pub(crate) table: Slots<Entry, 48>,
+    ghost rises: { rising (items table) ≡ true },
 }
-
-// There is no place for one more entry.
-#[derive(Clone, Copy)]
-pub struct Full;

@@ -1,9 +1,7 @@
 // An entry of a configuration, and the order of entries.
-ghost use Rattle.config.specs.Equal.{same_entry};
 ghost use Rattle.config.specs.Order.{entry_form, path_sooner};
-ghost use Rattle.std.specs.Prelude.{◌≡◌, [], ◌∷◌, Some, Decides};
+ghost use Rattle.std.specs.Prelude.{◌≡◌, [], ◌∷◌, Some};
 ghost use Rattle.fault.specs.Text.{spaced};
-ghost use Rattle.std.specs.Cmp.Rules.{comparing};
 ghost use Rattle.std.proofs.Common.{rules};
 
 use encoding::{Coded, Form};
@@ -12,23 +10,10 @@ use std::fmt;
 use table::Record;
 
 // A path and its value, which is 0 at a list.
-#[derive(Clone, Copy)]
+#[derive(Clone, Copy, PartialEq, Eq, Debug)]
 pub struct Entry {
     pub path: Path,
     pub value: u32,
-}
-
-impl PartialEq for Entry {
-    ghost eq = { same_entry };
-
-    ghost laws = { Prim.search (comparing, rules) };
-
-    fn eq(&self, other: &Entry) -> bool
-        ensures computes { result ≡ same_entry self.now other.now }
-        ensures decides { Decides result (self.now ≡ other.now) }
-    {
-        self.path == other.path && self.value == other.value
-    }
 }
 
 // Entries by their paths: by node, then by k1, then by k2.
@@ -50,13 +35,7 @@ impl Record for Entry {
     }
 
     fn before(a: Path, b: Path) -> bool {
-        if a.node != b.node {
-            a.node < b.node
-        } else if a.k1 != b.k1 {
-            a.k1 < b.k1
-        } else {
-            a.k2 < b.k2
-        }
+        a < b
     }
 }
 

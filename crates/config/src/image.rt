@@ -9,63 +9,54 @@ ghost use Rattle.std.specs.Prelude.{◌≡◌};
 use crate::config::Config;
 use crate::entries::UNUSED;
 use crate::entry::Entry;
+use encoding::NoRoom;
 use fault::Report;
 use schema::Schema;
-use table::Record;
-
-// The output is too short for the image of any configuration.
-#[derive(Clone, Copy)]
-pub struct ShortOutput;
+use table::Slots;
 
 // The bytes are no image of a configuration that the schema allows.
-#[derive(Clone, Copy)]
+#[derive(Clone, Copy, PartialEq, Eq, Debug)]
 pub struct ImageFault;
 
 // Each path comes before the next one.
 fn rise(entries: &[Entry]) -> bool
     ensures { result ≡ rising entries.now }
 {
-    for i in 1..entries.len() {
-        if !<Entry as table::Record>::before(entries[i - 1].path, entries[i].path) {
-            return false;
-        }
-    }
-    true
+    entries.is_sorted_by(|a, b| a.path < b.path)
 }
 
 impl Config {
-    // Writes the image to the front of the output, and answers its length.
-    pub fn encode(&self, out: &mut [u8]) -> Result<usize, ShortOutput>
+    // Writes the image to the front of the output, and answers its length. An output that is too short for the image of any
+    // configuration has no room.
+    pub fn encode(&self, out: &mut [u8]) -> Result<usize, NoRoom>
         ensures { Encoded (used self.now) out.old out.new result }
     {
         if out.len() < 769 {
-            return Err(ShortOutput);
+            return Err(NoRoom);
         }
-        match encoding::encode(self.entries(), out) {
-            Ok(length) => Ok(length),
-            Err(_) => Err(ShortOutput),
-        }
+        encoding::encode(self.entries(), out)
     }
 
     // The entries of an image, if it has the form of one and the paths rise.
     fn decode(image: &[u8]) -> Option<Config>
         ensures { Decoded image.now result }
     {
+        // No heap: the entries are read into a buffer, and their number comes beside it.
         let mut entries = [UNUSED; 48];
         let count = encoding::decode(image, &mut entries)?;
-        if !rise(&entries[0..count]) {
-            return None;
+        let table = Slots::first(entries, count);
+        if rise(table.as_slice()) {
+            Some(Config { table })
+        } else {
+            None
         }
-        Some(Config { entries, count })
     }
 
     // The configuration whose image the bytes are, if the schema allows it.
     pub fn read(schema: &Schema, image: &[u8]) -> Result<Config, ImageFault>
         ensures { Read (nodes schema.now) image.now result }
     {
-        let Some(config) = Config::decode(image) else {
-            return Err(ImageFault);
-        };
+        let config = Config::decode(image).ok_or(ImageFault)?;
         if config.is_lawful(schema) {
             Ok(config)
         } else {
@@ -75,7 +66,7 @@ impl Config {
 }
 
 impl ImageFault {
-    // Refusal 12.
+    // Refusal 12. A method and no From, as of every fault: some answer an Option or take a path.
     pub fn report(self) -> Report
         ensures { result ≡ plain 12 }
     {

@@ -13,10 +13,9 @@ impl Config {
     pub fn holds(&self, schema: &Schema, path: Path) -> bool
         ensures { result ≡ held (nodes schema.now) (used self.now) path }
     {
-        match schema.around(path) {
-            Some(list) => self.get(list).is_some(),
-            None => true,
-        }
+        schema
+            .around(path)
+            .is_none_or(|list| self.get(list).is_some())
     }
 
     fn entry_lawful(&self, schema: &Schema, entry: Entry) -> bool
@@ -29,11 +28,8 @@ impl Config {
     pub fn is_lawful(&self, schema: &Schema) -> bool
         ensures { Decides result (Lawful (nodes schema.now) (used self.now)) }
     {
-        for i in 0..self.count {
-            if !self.entry_lawful(schema, self.entries[i]) {
-                return false;
-            }
-        }
-        true
+        self.entries()
+            .iter()
+            .all(|entry| self.entry_lawful(schema, *entry))
     }
 }

@@ -10,7 +10,9 @@ mod lawful;
 mod laws;
 
 pub use choice::Choice;
-pub use config::{Config, Full};
+pub use config::Config;
+pub use encoding::NoRoom;
 pub use entry::Entry;
-pub use image::{ImageFault, ShortOutput};
-pub use laws::{images_decide, paths_decide, reads_back};
+pub use image::ImageFault;
+pub use laws::{entries_compare, images_decide, paths_decide, reads_back};
+pub use table::Full;

@@ -3,19 +3,12 @@ use super::given::{Numbers, counted, entry, path, schema};
 use config::{Config, Entry};
 use std::test::Fail;
 
-fn is(found: Option<Entry>, expected: Entry) -> bool {
-    match found {
-        Some(held) => held == expected,
-        None => false,
-    }
-}
-
 // Puts the entry in, or takes it out, and says whether that was done.
 fn done(config: &mut Config, put: bool, step: Entry) -> bool {
     if put {
-        config.put(step).is_ok() && is(config.get(step.path), step)
+        config.put(step).is_ok() && config.get(step.path) == Some(step)
     } else {
-        is(config.take_out(step.path), step)
+        config.take_out(step.path) == Some(step)
     }
 }
 
@@ -38,8 +31,7 @@ const STEPS: [(bool, Numbers, bool, usize); 11] = [
 #[test]
 fn full(rt: HostRuntime) {
     let mut config = counted(&rt, 48);
-    for case in STEPS {
-        let (put, numbers, expected, count) = case;
+    for (put, numbers, expected, count) in STEPS {
         let before = config;
         assert_eq!(rt; done(&mut config, put, entry(numbers)), expected);
         assert_eq!(rt; config.entries().len(), count, "{numbers:?}");
@@ -72,8 +64,8 @@ fn order(rt: HostRuntime) {
     }
     let entries = config.entries();
     assert!(rt; entries.len() == 5);
-    for i in 0..5 {
-        assert!(rt; entries[i] == entry(ORDERED[i]), "place {i}");
+    for (i, (&held, numbers)) in entries.iter().zip(ORDERED).enumerate() {
+        assert!(rt; held == entry(numbers), "place {i}");
     }
 }
 
@@ -118,13 +110,11 @@ fn lawfulness(rt: HostRuntime) -> Result<(), Fail> {
     let schema = schema()?;
     let mut config = Config::empty();
     assert!(rt; config.is_lawful(&schema));
-    for step in LAWFUL {
-        let (numbers, lawful) = step;
+    for (numbers, lawful) in LAWFUL {
         assert!(rt; config.put(entry(numbers)).is_ok());
         assert_eq!(rt; config.is_lawful(&schema), lawful, "{numbers:?}");
     }
-    for case in HELD {
-        let ((node, k1, k2), held) = case;
+    for ((node, k1, k2), held) in HELD {
         assert_eq!(rt; config.holds(&schema, path(node, k1, k2)), held);
     }
     Ok(())

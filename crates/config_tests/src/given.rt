@@ -1,6 +1,5 @@
 // What the tests share: rows, paths and entries by their numbers, and a schema.
 use config::{Config, Entry};
-use fault::Report;
 use schema::{NodeRow, Path, Schema};
 use std::alloc::{AllocError, Global};
 use std::process::Abort;
@@ -44,18 +43,12 @@ pub(super) fn schema() -> Result<Schema, Fail> {
         row([2, 0, 50, 60, 0, 0, 0]),
         row([2, 1, 70, 80, 0, 0, 0]),
     ];
-    match Schema::check(&rows) {
-        Ok(schema) => Ok(schema),
-        Err(_) => Err(Fail::new("the schema is lawful")),
-    }
+    Schema::check(&rows).map_err(|_| Fail::new("the schema is lawful"))
 }
 
 // A list with keys 1 to 60.
 pub(super) fn long_list() -> Result<Schema, Fail> {
-    match Schema::check(&[row([1, 0, 1, 60, 0, 0, 48])]) {
-        Ok(schema) => Ok(schema),
-        Err(_) => Err(Fail::new("the schema is lawful")),
-    }
+    Schema::check(&[row([1, 0, 1, 60, 0, 0, 48])]).map_err(|_| Fail::new("the schema is lawful"))
 }
 
 // Entries of the list at the top, with keys 1 to `count`.
@@ -74,8 +67,8 @@ pub(super) fn counted(rt: &impl Abort, count: u32) -> Config {
 pub(super) fn image(heap: Global, count: u8, entries: &[Numbers]) -> Result<Vec<u8>, AllocError> {
     let mut bytes = Vec::new(heap);
     bytes.push(count)?;
-    for numbers in entries {
-        add(&mut bytes, *numbers)?;
+    for &numbers in entries {
+        add(&mut bytes, numbers)?;
     }
     Ok(bytes)
 }
@@ -86,18 +79,4 @@ pub(super) fn add(bytes: &mut Vec<u8>, numbers: Numbers) -> Result<(), AllocErro
     bytes.extend_from_slice(&k1.to_be_bytes())?;
     bytes.extend_from_slice(&k2.to_be_bytes())?;
     bytes.extend_from_slice(&value.to_be_bytes())
-}
-
-// The eight numbers of a refusal, in their order.
-pub(super) fn eight(report: Report) -> [u32; 8] {
-    [
-        report.number,
-        report.layer,
-        report.cause,
-        report.item,
-        report.kept,
-        report.node,
-        report.k1,
-        report.k2,
-    ]
 }

@@ -1,5 +1,5 @@
 // Which bytes are an image of a configuration.
-use super::given::{Numbers, add, counted, eight, image, long_list, schema};
+use super::given::{Numbers, add, counted, image, long_list, schema};
 use config::Config;
 use schema::Schema;
 use std::alloc::Global;
@@ -10,9 +10,9 @@ use std::test::Fail;
 fn encodes(rt: &impl Abort, config: &Config, expected: &[u8]) {
     let mut out = [170u8; 800];
     assert_eq!(rt; config.encode(&mut out).ok(), Some(expected.len()));
-    for i in 0..out.len() {
-        let byte = expected.get(i).copied().unwrap_or(170);
-        assert_eq!(rt; out[i], byte, "byte {i}");
+    for (i, &byte) in out.iter().enumerate() {
+        let wanted = expected.get(i).copied().unwrap_or(170);
+        assert_eq!(rt; byte, wanted, "byte {i}");
     }
 }
 
@@ -24,7 +24,7 @@ fn accepted(rt: &impl Abort, schema: &Schema, bytes: &[u8]) -> Result<bool, Fail
             Ok(true)
         }
         Err(fault) => {
-            assert_eq!(rt; eight(fault.report()), [12, 3, 0, 0, 0, 0, 0, 0]);
+            assert_eq!(rt; fault.report().fields(), [12, 3, 0, 0, 0, 0, 0, 0]);
             Ok(false)
         }
     }
@@ -91,8 +91,7 @@ fn hold(
     cases: &[(Numbers, bool)],
 ) -> Result<(), Fail> {
     let schema = schema()?;
-    for case in cases {
-        let (numbers, expected) = *case;
+    for &(numbers, expected) in cases {
         let mut bytes = image(heap, count, before)?;
         add(&mut bytes, numbers)?;
         let told = accepted(rt, &schema, bytes.as_slice())?;
@@ -138,8 +137,7 @@ const BYTES: [(usize, u8, bool); 21] = [
 #[test]
 fn other_bytes(rt: HostRuntime) -> Result<(), Fail> {
     let schema = schema()?;
-    for case in BYTES {
-        let (place, byte, expected) = case;
+    for (place, byte, expected) in BYTES {
         let mut bytes = image(rt.alloc(), 3, &THREE)?;
         assert!(rt; place < bytes.len());
         bytes[place] = byte;
@@ -191,8 +189,7 @@ fn long(heap: Global, byte: u8, count: u32) -> Result<Vec<u8>, Fail> {
 #[test]
 fn many_entries(rt: HostRuntime) -> Result<(), Fail> {
     let schema = long_list()?;
-    for case in COUNTS {
-        let (byte, count, expected) = case;
+    for (byte, count, expected) in COUNTS {
         let bytes = long(rt.alloc(), byte, count)?;
         let told = accepted(&rt, &schema, bytes.as_slice())?;
         assert_eq!(rt; told, expected, "count {byte} of {count}");

@@ -1,5 +1,5 @@
 // Which keys and which value a path takes.
-use super::given::{Numbers, eight, path, schema};
+use super::given::{Numbers, path, schema};
 use schema::{Path, Schema};
 use std::process::Abort;
 use std::test::Fail;
@@ -76,13 +76,12 @@ const OUTER_LEAF: [Case; 9] = [
 fn refusal(schema: &Schema, at: Path, value: u32) -> [u32; 8] {
     match schema.check_entry(at, value) {
         Ok(()) => [0; 8],
-        Err(fault) => eight(fault.report(at)),
+        Err(fault) => fault.report(at).fields(),
     }
 }
 
 fn hold(rt: &impl Abort, schema: &Schema, cases: &[Case]) {
-    for case in cases {
-        let ((node, k1, k2, value), number) = *case;
+    for &((node, k1, k2, value), number) in cases {
         let expected = match number {
             0 => [0; 8],
             _ => [number, 3, 0, 0, 0, u32::from(node), k1, k2],
@@ -106,19 +105,12 @@ fn keys_and_values(rt: HostRuntime) -> Result<(), Fail> {
     Ok(())
 }
 
-fn is_around(schema: &Schema, at: Path, list: Path) -> bool {
-    match schema.around(at) {
-        Some(found) => found == list,
-        None => false,
-    }
-}
-
 #[test]
 fn lists_around(rt: HostRuntime) -> Result<(), Fail> {
     let schema = schema()?;
-    assert!(rt; is_around(&schema, path(2, 3, 10), path(1, 3, 0)));
-    assert!(rt; is_around(&schema, path(3, 3, 10), path(2, 3, 10)));
-    assert!(rt; is_around(&schema, path(5, 3, 0), path(1, 3, 0)));
+    assert_eq!(rt; schema.around(path(2, 3, 10)), Some(path(1, 3, 0)));
+    assert_eq!(rt; schema.around(path(3, 3, 10)), Some(path(2, 3, 10)));
+    assert_eq!(rt; schema.around(path(5, 3, 0)), Some(path(1, 3, 0)));
     assert!(rt; schema.around(path(1, 3, 0)).is_none());
     assert!(rt; schema.around(path(4, 0, 0)).is_none());
     assert!(rt; schema.around(path(0, 3, 0)).is_none());

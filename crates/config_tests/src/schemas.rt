@@ -1,5 +1,5 @@
 // Which rows make a schema, and which node is told where they do not.
-use super::given::{eight, row};
+use super::given::row;
 use schema::{Node, NodeRow, Schema};
 use std::process::Abort;
 use std::test::Fail;
@@ -93,20 +93,18 @@ fn first_bad(rt: &impl Abort, rows: &[NodeRow]) -> Result<Option<u32>, Fail> {
         Ok(_) => Ok(None),
         Err(fault) => {
             let node = fault.node;
-            assert_eq!(rt; eight(fault.report()), [11, 3, 0, 0, 0, node, 0, 0]);
+            assert_eq!(rt; fault.report().fields(), [11, 3, 0, 0, 0, node, 0, 0]);
             Ok(Some(node))
         }
     }
 }
 
 fn lawful_rows() -> [NodeRow; 5] {
-    let [a, b, c, d, e] = LAWFUL;
-    [row(a), row(b), row(c), row(d), row(e)]
+    LAWFUL.map(row)
 }
 
 fn hold(rt: &impl Abort, cases: &[Case]) -> Result<(), Fail> {
-    for case in cases {
-        let (number, numbers, expected) = *case;
+    for &(number, numbers, expected) in cases {
         let mut rows = lawful_rows();
         assert!(rt; 1 <= number && number <= 5);
         rows[number - 1] = row(numbers);
@@ -144,8 +142,7 @@ const COUNTS_AND_BAD: [(usize, Option<u32>); 4] = [
 ];
 
 fn count(rt: &impl Abort, rows: [NodeRow; 18], cases: &[(usize, Option<u32>)]) -> Result<(), Fail> {
-    for case in cases {
-        let (count, expected) = *case;
+    for &(count, expected) in cases {
         assert!(rt; count <= 18);
         assert_eq!(rt; first_bad(rt, &rows[0..count])?, expected, "{count} nodes");
     }
@@ -210,12 +207,9 @@ fn numbers(node: Option<Node>) -> [u32; 7] {
 // The typed nodes say what the rows say.
 #[test]
 fn typed_nodes(rt: HostRuntime) -> Result<(), Fail> {
-    let Ok(schema) = Schema::check(&lawful_rows()) else {
-        return Err(Fail::new("the rows are lawful"));
-    };
-    let mut number = 0u8;
-    for row in LAWFUL {
-        number = number.wrapping_add(1);
+    let schema = Schema::check(&lawful_rows()).map_err(|_| Fail::new("the rows are lawful"))?;
+    for (i, &row) in LAWFUL.iter().enumerate() {
+        let number = i as u8 + 1;
         assert_eq!(rt; numbers(schema.node(number)), row, "node {number}");
     }
     for none in [0, 6, 16, 17, 255] {

@@ -39,8 +39,7 @@ fn values(rows: &[Entry]) -> [u32; 3] {
 
 fn follow(rt: &impl Abort, rows: &mut [Entry]) {
     let mut used = 3;
-    for case in STEPS {
-        let (put, numbers, expected, after) = case;
+    for (put, numbers, expected, after) in STEPS {
         assert_eq!(rt; step(rows, used, put, entry(numbers)), expected);
         used = expected.unwrap_or(used);
         assert_eq!(rt; values(rows), after, "{numbers:?}");
@@ -94,8 +93,7 @@ fn names_in_order(rt: HostRuntime) -> Result<(), Fail> {
         value: 0,
     }; 4];
     sort_names(&rt, &mut rows)?;
-    for case in PLACES {
-        let (name, place) = case;
+    for (name, place) in PLACES {
         assert!(rt; table::find(&rows, name) == place, "{name:?}");
         assert_eq!(rt; table::get(&rows, 9, name).is_some(), place.is_ok());
     }

@@ -1,6 +1,6 @@
 -- Accesses in reach and out of it. Assumes nothing.
 use Rattle.std.proofs.Common.{◌≡◌, ℕ, ◌<◌, ◌≤◌, Bool, true, false, ltb, ◌⊎◌, List, length, get_or, Ok, Err, MatchBool, Result, sym, refl, subst, inl, inr, ⊎_elim}
-use Rattle.std.proofs.lemmas.Bool.{and_parts, and_cases, ltb-true, ltb-false, lt-ltb, le-ltb, and_from, and_left, and_right, cond-true, cond-false, cases_Bool}
+use Rattle.std.proofs.lemmas.Bool.{and_parts, and_cases, ltb-true, ltb-false, cond-true, cond-false, cases_Bool}
 use Rattle.device.specs.declared.Block.{Block}
 use Rattle.device.specs.declared.Block.TheVariants.{Damaged}
 use Rattle.device.specs.declared.DeviceFault.{DeviceFault}
@@ -12,15 +12,8 @@ use Rattle.device.proofs.Answers.{read_refused, read_answered, write_refused}
 pub reached : (bs : List Block) (p : Bool) (at : ℕ) → in_reach bs p at ≡ true → (p ≡ true) × (at < length bs)
 reached bs p at e = let b = and_parts p (ltb at (length bs)) e in (b.0, ltb-true at (length bs) b.1)
 
-pub out_of_reach : (bs : List Block) (p : Bool) (at : ℕ) → in_reach bs p at ≡ false → (p ≡ false) ⊎ (length bs ≤ at)
+out_of_reach : (bs : List Block) (p : Bool) (at : ℕ) → in_reach bs p at ≡ false → (p ≡ false) ⊎ (length bs ≤ at)
 out_of_reach bs p at e = ⊎_elim (λ a. inl a) (λ b. inr (ltb-false at (length bs) b)) (and_cases p (ltb at (length bs)) e)
-
-pub reaches : (bs : List Block) (p : Bool) (at : ℕ) → p ≡ true → at < length bs → in_reach bs p at ≡ true
-reaches bs p at on here = and_from p (ltb at (length bs)) on (lt-ltb at (length bs) here)
-
-pub no_reach : (bs : List Block) (p : Bool) (at : ℕ) → (p ≡ false) ⊎ (length bs ≤ at) → in_reach bs p at ≡ false
-no_reach bs p at (inl off) = and_left p (ltb at (length bs)) off
-no_reach bs p at (inr past) = and_right p (ltb at (length bs)) (le-ltb at (length bs) past)
 
 -- a read that never loses power keeps the rule
 pub answers : (bs : List Block) (p : Bool) (at : ℕ) → ReadAnswer bs p at (read_answer bs p at) bs p
@@ -30,12 +23,9 @@ answers bs p at =
     (λ f. rw (cond-false (in_reach bs p at) (Ok (get_or bs at Damaged)) (Err Refused) f) (read_refused bs p at (out_of_reach bs p at f)))
     (cases_Bool (in_reach bs p at))
 
--- an access in reach, and one out of it
-pub made_so : {D T : Type 0} (bs : List Block) (p : Bool) (at : ℕ) (made : Type 0) (r : Result T DeviceFault) (d e : D) → p ≡ true → at < length bs → made → UnlessRefused bs p at made r d e
-made_so bs p at made r d e on here w = subst (λ (b : Bool). MatchBool b made ((r ≡ Err Refused) × (e ≡ d))) (sym (reaches bs p at on here)) w
-
-pub refused_so : {D T : Type 0} (bs : List Block) (p : Bool) (at : ℕ) (made : Type 0) (r : Result T DeviceFault) (d e : D) → (p ≡ false) ⊎ (length bs ≤ at) → r ≡ Err Refused → e ≡ d → UnlessRefused bs p at made r d e
-refused_so bs p at made r d e out no' same = subst (λ (b : Bool). MatchBool b made ((r ≡ Err Refused) × (e ≡ d))) (sym (no_reach bs p at out)) (no', same)
+-- an access in reach
+pub made_in : {D T : Type 0} (bs : List Block) (p : Bool) (at : ℕ) (made : Type 0) (r : Result T DeviceFault) (d e : D) → in_reach bs p at ≡ true → made → UnlessRefused bs p at made r d e
+made_in bs p at made r d e reach w = subst (λ (b : Bool). MatchBool b made ((r ≡ Err Refused) × (e ≡ d))) (sym reach) w
 
 -- either of the two, by cases
 pub split : {D T : Type 0} (G : Type 0) (bs : List Block) (p : Bool) (at : ℕ) (made : Type 0) (r : Result T DeviceFault) (d e : D) → UnlessRefused bs p at made r d e → (p ≡ true → at < length bs → made → G) → ((p ≡ false) ⊎ (length bs ≤ at) → r ≡ Err Refused → e ≡ d → G) → G

@@ -3,3 +3,4 @@ pub mod Reach
 pub mod Accesses
 pub mod View
 pub mod Reports
+pub mod Views

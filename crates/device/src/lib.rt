@@ -7,12 +7,16 @@ ghost use Rattle.device.specs.declared.Block.{Block};
 ghost use Rattle.device.specs.declared.DeviceFault.{DeviceFault};
 ghost use Rattle.device.specs.declared.DeviceFault.TheVariants.{Refused};
 ghost use Rattle.device.specs.Power.{ReadAnswer, WriteAnswer};
+ghost use Rattle.device.specs.Reach.{Admits};
 ghost use Rattle.device.specs.Reports.{device_report};
-ghost use Rattle.device.specs.View.{Views, OffRefuses};
+
+mod laws;
 
 use fault::Report;
+pub use laws::accesses_keep_the_rule;
 
 // A block is good with its bytes, or damaged.
+// No Option, which is no plainer: a damaged block is there too, and Ok(None) of a read would not say that it is damaged.
 #[derive(Clone, Copy, PartialEq, Eq, Debug)]
 pub enum Block {
     Good([u8; 32]),
@@ -28,15 +32,14 @@ pub enum DeviceFault {
 }
 
 impl DeviceFault {
-    // Refusal 36 with the block as its cause. A refused access has no number, nor has a block past 32 bits.
+    // Refusal 36 with the block as its cause. A refused access has no number, nor has a block past 32 bits, so there is no From.
     pub fn report(self) -> Option<Report>
         ensures { result ≡ device_report self }
     {
         match self {
-            DeviceFault::PowerLost { block } => match u32::try_from(block) {
-                Ok(cause) => Some(Report::plain(36).because(cause)),
-                Err(_) => None,
-            },
+            DeviceFault::PowerLost { block } => u32::try_from(block)
+                .ok()
+                .map(|cause| Report::plain(36).because(cause)),
             DeviceFault::Refused => None,
         }
     }
@@ -70,6 +73,17 @@ pub trait Device {
     fn write(&mut self, at: usize, bytes: [u8; 32]) -> Result<(), DeviceFault>
         ensures { writes self.old at bytes result self.new };
 
+    // Lets an access of a block through: power has to be on and the block there.
+    fn admit(&self, at: usize) -> Result<(), DeviceFault>
+        ensures { Admits (blocks self.now) (powered self.now) at result }
+    {
+        if self.is_on() && at < self.block_count() {
+            Ok(())
+        } else {
+            Err(DeviceFault::Refused)
+        }
+    }
+
     // The power rule.
     ghost raised: { (d e : Self) → raises d e → (blocks e ≡ blocks d) × (powered e ≡ true) };
 
@@ -81,13 +95,4 @@ pub trait Device {
     ghost unread: { (d e : Self) (at : ℕ) → reads d at (Err Refused) e → e ≡ d };
 
     ghost unwritten: { (d e : Self) (at : ℕ) (bytes : List ℕ) → writes d at bytes (Err Refused) e → e ≡ d };
-}
-
-// law: accesses made of any device that is on, all of blocks that it has, are all done, or power fails at one of them,
-// and the blocks are then those of the power rule.
-pub fn accesses_keep_the_rule<D: Device>() -> u8
-    ensures views { Views D.Device.blocks D.Device.powered D.Device.reads D.Device.writes }
-    ensures off { OffRefuses D.Device.powered D.Device.reads D.Device.writes }
-{
-    0
 }

@@ -3,6 +3,7 @@
 // A letter stands for a block: o as before, n new, d damaged, x anything else. It is a capital where the write was done.
 #![tactic(auto)]
 
+use cells::{Cell, Cells};
 use device::{Block, Device, DeviceFault};
 use flash::Flash;
 use image::Image;
@@ -59,24 +60,19 @@ fn cut_write<D: Device>(device: &mut D) -> char {
     }
 }
 
-fn sweep_image(rt: &HostRuntime, good: bool) -> anyhow::Result<()> {
-    for cut in 0..36 {
-        let mut device = image(rt.alloc(), good, cut)?;
+// Cuts power after each number of byte writes, each on a new device. An x is also where bytes that fill no block changed.
+fn sweep<C: Cell + Drop, F: Fn(Global, bool, u32) -> Result<Cells<C>, AllocError> + Drop>(
+    rt: &HostRuntime,
+    make: F,
+    good: bool,
+    cuts: u32,
+) -> anyhow::Result<()>
+    requires { F.IsAlwaysCallable make }
+{
+    for cut in 0..cuts {
+        let mut device = make(rt.alloc(), good, cut)?;
         let seen = cut_write(&mut device);
-        let bytes = device.bytes();
-        let kept = bytes.len() == 36 && bytes[34] == OLD && bytes[35] == OLD;
-        print!(rt; "{}", if kept { seen } else { 'x' })?;
-    }
-    println!(rt; "")?;
-    Ok(())
-}
-
-fn sweep_flash(rt: &HostRuntime, good: bool) -> anyhow::Result<()> {
-    for cut in 0..68 {
-        let mut device = flash(rt.alloc(), good, cut)?;
-        let seen = cut_write(&mut device);
-        let bytes = device.bytes();
-        let kept = bytes.len() == 35 && bytes[33] == OLD && bytes[34] == OLD;
+        let kept = matches!(device.bytes().get(C::SIZE..), Some([OLD, OLD]));
         print!(rt; "{}", if kept { seen } else { 'x' })?;
     }
     println!(rt; "")?;
@@ -211,11 +207,11 @@ fn doomed(rt: &HostRuntime) -> anyhow::Result<()> {
 
 fn run(rt: &HostRuntime) -> anyhow::Result<()> {
     println!(rt; "image, from a good block and from a damaged one")?;
-    sweep_image(rt, true)?;
-    sweep_image(rt, false)?;
+    sweep(rt, image, true, 36)?;
+    sweep(rt, image, false, 36)?;
     println!(rt; "flash, from a good block and from a damaged one")?;
-    sweep_flash(rt, true)?;
-    sweep_flash(rt, false)?;
+    sweep(rt, flash, true, 68)?;
+    sweep(rt, flash, false, 68)?;
     println!(rt; "mirror of an image and a flash, every cut of either")?;
     for first in [true, false] {
         for second in [true, false] {

@@ -1,6 +1,7 @@
 -- The entries after an item: what is found at every path, and how many there are.
-use Rattle.std.proofs.Common.{◌≡◌, ◌<◌, ◌≤◌, Bool, true, false, cond, not, ◌&&◌, ◌||◌, List, [], ◌∷◌, length, is_some, Some, None, Ok, Err, filter, Option, sym, refl, ap, ◌∙◌, subst, ⊎_elim, arith}
-use Rattle.std.proofs.lemmas.Bool.{and_from, both_ways, cases_Bool, cond_both, cond-false, cond-true, or_right}
+use Rattle.std.proofs.Common.{◌≡◌, ◌<◌, ◌≤◌, Bool, true, false, cond, not, ◌&&◌, ◌||◌, List, length, is_some, Some, None, Ok, Option, sym, refl, ap, ◌∙◌, subst, ⊎_elim, arith, rules}
+use Rattle.std.proofs.lemmas.Bool.{and_from, both_ways, cases_Bool, cond-false, cond-true, or_right}
+use Rattle.std.proofs.lemmas.List.Filters.{length-filter_both}
 use Rattle.table.proofs.Rows.{lookup_kept, lookup_put, lookup_put_other, rising_kept, with_length, with_length_present}
 use Rattle.schema.specs.Depth.{two_deep}
 use Rattle.schema.specs.declared.nodes.Node.{Node}
@@ -9,12 +10,11 @@ use Rattle.config.specs.Configs.{found, path_of, with_entry}
 use Rattle.config.specs.Order.{equal_paths, path_sooner, rising}
 use Rattle.config.specs.declared.entry.Entry.{Entry}
 use Rattle.config.proofs.Order.{total, rises}
-use Rattle.edit.specs.declared.faults.ItemFault.{ItemFault}
 use Rattle.edit.specs.declared.item.Item.{Item}
 use Rattle.edit.specs.declared.item.Operation.{Operation}
 use Rattle.edit.specs.declared.item.Operation.TheVariants.{Merge, Replace, Create, Delete, Remove}
 use Rattle.edit.specs.Applied.{Performed}
-use Rattle.edit.specs.Does.{after_at, changed, cleared, clears, does, done, entry_of, judged, present, put_in, puts, stays, taken_out, under}
+use Rattle.edit.specs.Does.{after_at, changed, cleared, clears, entry_of, judged, present, put_in, puts, stays, taken_out, under}
 use Rattle.edit.proofs.Under.{equal_is, equal_self, under_self}
 
 -- an operation that does not put clears
@@ -25,22 +25,17 @@ clears_unless_puts Create h = absurd (both_ways true h refl)
 clears_unless_puts Delete h = refl
 clears_unless_puts Remove h = refl
 
-kept_few : {A : Type 0} (f : A → Bool) (xs : List A) → length (filter f xs) ≤ length xs
-kept_few f [] = omega arith
-kept_few f (x ∷ xs) =
-    let fewer = kept_few f xs in
-    cond_both (f x) (x ∷ filter f xs) (filter f xs) (λ l. length l ≤ length (x ∷ xs)) (λ _. omega arith) (λ _. omega arith)
-
 cond_not : {A : Type 0} (b : Bool) (x y : A) → cond (not b) x y ≡ cond b y x
-cond_not true x y = refl
-cond_not false x y = refl
+cond_not b x y = search rules
 
 module _ (ns : List Node) (es : List Entry) (op : Operation) (p : Path) where
   pub found_cleared : (q : Path) → found (cleared ns es op p) q ≡ cond (taken_out ns op p q) None (found es q)
   found_cleared q = lookup_kept path_of path_sooner total (λ x. not (taken_out ns op p x)) es q ∙ cond_not (taken_out ns op p q) (found es q) None
 
   pub cleared_few : length (cleared ns es op p) ≤ length es
-  cleared_few = kept_few (λ (e : Entry). not (taken_out ns op p e.path)) es
+  cleared_few =
+      let parts = length-filter_both (λ (e : Entry). not (taken_out ns op p e.path)) (λ e. not (not (taken_out ns op p e.path))) (λ e. refl) es in
+      omega (arith, parts)
 
   module _ (deep : two_deep ns ≡ true) where
     -- an operation that puts leaves its target
@@ -130,10 +125,3 @@ changed_puts ns es op n i h = sym (cond-true _ _ _ h)
 pub changed_else : (ns : List Node) (es : List Entry) (op : Operation) (n : Node) (i : Item) → puts op ≡ false → cleared ns es op i.path ≡ changed ns es op n i
 unfolding changed
 changed_else ns es op n i h = sym (cond-false _ _ _ h)
-
--- what one item does, from what performing it says
-pub does_ok : (ns : List Node) (es : List Entry) (i : Item) (fs : List Entry) → Performed ns es i fs → does ns es i ≡ Ok fs
-does_ok ns es i fs p = ap (done ns es i) p.lawful ∙ ap (λ l. Ok l) (sym p.entries)
-
-pub does_err : (ns : List Node) (es : List Entry) (i : Item) (f : ItemFault) → judged ns es i ≡ Err f → does ns es i ≡ Err f
-does_err ns es i f e = ap (done ns es i) e

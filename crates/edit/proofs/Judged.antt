@@ -1,46 +1,17 @@
--- The judgement of an item, step by step.
+-- What an item that is not refused fulfils.
 use Rattle.std.proofs.Common.{◌≡◌, ℕ, ◌<◌, Bool, true, false, not, leb, List, [], ◌∷◌, length, Some, None, Ok, Err, Option, Result, sym, refl, ap, ◌∙◌, subst, ⊎_elim, arith}
 use Rattle.std.proofs.lemmas.Bool.{and_from, both_ways, cases_Bool, cond-true, cond-false, leb-false, or_right}
 use Rattle.schema.specs.Paths.{path_answer}
 use Rattle.schema.specs.declared.nodes.Node.{Node}
 use Rattle.schema.specs.declared.path.PathFault.{PathFault}
-use Rattle.schema.specs.declared.path.PathFault.TheVariants.{Value}
 use Rattle.config.specs.Lawful.{held}
 use Rattle.config.specs.declared.entry.Entry.{Entry}
 use Rattle.edit.specs.declared.faults.ItemFault.{ItemFault}
-use Rattle.edit.specs.declared.faults.ItemFault.TheVariants.{Operation as no_operation, Path as bad_path}
 use Rattle.edit.specs.declared.item.Item.{Item}
 use Rattle.edit.specs.declared.item.Operation.{Operation}
 use Rattle.edit.specs.Numbers.{operation_at}
 use Rattle.edit.specs.Does.{checked, first_of, judged, judged_operation, judged_path, judged_value, moment, needs_present, present, puts, value_lawful}
 
-module _ (ns : List Node) (es : List Entry) (i : Item) where
-  pub no_such : None ≡ operation_at i.operation → Err no_operation ≡ judged ns es i
-  unfolding judged
-  no_such o = ap (judged_operation ns es i) o
-
-  module _ (op : Operation) (o : Some op ≡ operation_at i.operation) where
-    from_path : judged_path ns es i op (path_answer ns i.path) ≡ judged ns es i
-    unfolding judged
-    from_path = ap (judged_operation ns es i) o
-
-    pub wrong_path : (f : PathFault) → Err f ≡ path_answer ns i.path → Err (bad_path f) ≡ judged ns es i
-    wrong_path f h = ap (judged_path ns es i op) h ∙ from_path
-
-    module _ (n : Node) (h : Ok n ≡ path_answer ns i.path) where
-      from_value : judged_value ns es i op n ≡ judged ns es i
-      from_value = ap (judged_path ns es i op) h ∙ from_path
-
-      pub wrong_value : value_lawful op n i.value ≡ false → Err (bad_path Value) ≡ judged ns es i
-      wrong_value v = sym (cond-false _ _ _ v) ∙ from_value
-
-      pub wrong_moment : (f : ItemFault) → value_lawful op n i.value ≡ true → Err f ≡ first_of (moment ns es op i.path) → Err f ≡ judged ns es i
-      wrong_moment f v m = ap (λ r. checked r op n) m ∙ sym (cond-true _ _ _ v) ∙ from_value
-
-      pub fine : value_lawful op n i.value ≡ true → Ok tt ≡ first_of (moment ns es op i.path) → Ok (op, n) ≡ judged ns es i
-      fine v m = ap (λ r. checked r op n) m ∙ sym (cond-true _ _ _ v) ∙ from_value
-
--- ---- what an item that is not refused fulfils
 pub never : {A B : Type 0} {x : A} {y : B} → Err x ≡ Ok y → ⊥
 never e = let z : ◌≡◌ {A = ℕ} 0 1 = cc in omega arith
 

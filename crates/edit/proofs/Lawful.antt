@@ -1,18 +1,16 @@
 -- The laws of edits.
-use Rattle.std.proofs.Common.{◌≡◌, ℕ, ◌≤◌, true, List, [], ◌∷◌, length, is_some, Ok, Err, Result, sym, refl, ap, subst, arith}
+use Rattle.std.proofs.Common.{◌≡◌, ◌≤◌, true, List, [], ◌∷◌, length, is_some, Ok, Err, Result, sym, refl, subst, arith, rules}
 use Rattle.std.proofs.lemmas.Bool.{cond_both}
-use Rattle.encoding.specs.declared.form.Form.{Form}
 use Rattle.encoding.proofs.Lists.{counted_same}
 use Rattle.table.proofs.Rows.{rising_kept, rising_with}
 use Rattle.schema.specs.Depth.{two_deep}
 use Rattle.schema.specs.Nodes.{nodes}
 use Rattle.schema.specs.declared.nodes.Node.{Node}
-use Rattle.schema.specs.declared.path.Path.{Path}
 use Rattle.config.specs.Configs.{path_of, used, with_entry}
 use Rattle.config.specs.Lawful.{Lawful}
 use Rattle.config.specs.Order.{path_sooner, rising}
 use Rattle.config.specs.declared.entry.Entry.{Entry}
-use Rattle.config.proofs.Order.{rises, rising_from, same_path, total}
+use Rattle.config.proofs.Order.{rises, rising_from, total}
 use Rattle.edit.specs.declared.faults.ItemFault.{ItemFault}
 use Rattle.edit.specs.declared.item.Item.{Item}
 use Rattle.edit.specs.declared.item.Operation.{Operation}
@@ -33,17 +31,8 @@ pub options_of : {C I F : Type 0} (does : C → I → Result C F) → OptionsOf 
 options_of does = record { all = none_refused does; one = λ c before d i f rest. one_refused does i f rest c before d }
 
 -- ---- items by their bytes
-item_made : ℕ → Path → ℕ → Item
-item_made o p v = record { operation = o; path = p; value = v }
-
 item_known : (i j : Item) → item_form i ≡ item_form j → i ≡ j
-unfolding item_made
-item_known i j h =
-    let o : i.operation ≡ j.operation = ap (λ (x : Form). x.a) h in
-    let p : i.path ≡ j.path = same_path i.path j.path (ap (λ (x : Form). x.b) h) (ap (λ (x : Form). x.k1) h) (ap (λ (x : Form). x.k2) h) in
-    let v : i.value ≡ j.value = ap (λ (x : Form). x.value) h in
-    let same : item_made i.operation i.path i.value ≡ item_made j.operation j.path j.value = cc in
-    same
+item_known i j h = search rules
 
 pub items_decide : ItemsDecide
 items_decide is js h = counted_same item_form item_known is js h

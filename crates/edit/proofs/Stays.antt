@@ -1,6 +1,7 @@
 -- A lawful configuration stays lawful.
 use Rattle.std.proofs.Common.{◌≡◌, ℕ, ◌<◌, ◌≤◌, true, false, not, ◌&&◌, ◌||◌, List, length, get_or, is_some, Some, None, Ok, Option, sym, refl, ap, ◌∙◌, subst, ⊎_elim}
 use Rattle.std.proofs.lemmas.Bool.{and_from, and_left, and_parts, both_ways, cases_Bool, cond-false, cond-true, or_left, or_from, and_right}
+use Rattle.std.proofs.lemmas.Option.{none-some}
 use Rattle.table.proofs.Rows.{found_key, found_place, place_found}
 use Rattle.schema.specs.Depth.{two_deep}
 use Rattle.schema.specs.Paths.{around, entry_answer, value_answer}
@@ -14,7 +15,7 @@ use Rattle.config.proofs.Order.{total, rises}
 use Rattle.edit.specs.declared.item.Item.{Item}
 use Rattle.edit.specs.Applied.{Performed}
 use Rattle.edit.specs.Does.{clears, entry_of, present, puts, stays, taken_out, target_after, under}
-use Rattle.edit.proofs.Under.{around_not_under, around_other, around_outside, equal_is, equal_self, never_some, not_equal, under_one}
+use Rattle.edit.proofs.Under.{around_not_under, around_other, around_outside, equal_is, equal_self, not_equal, under_one}
 use Rattle.edit.proofs.Changed.{clears_unless_puts}
 use Rattle.edit.proofs.Judged.{Passed, has_list, judged_passes}
 
@@ -118,13 +119,13 @@ module _ (ns : List Node) (deep : two_deep ns ≡ true) (es fs : List Entry) (i 
       let one : entry_of i ≡ e = cc in
       subst (λ x. EntryLawful ns fs x) one (record { fits = new_fits p; inside = held_target p }))
       (cases_Bool (stays done.node (present es i.path))))
-      (λ (p : puts done.operation ≡ false). absurd (never_some e (sym h ∙ at_target ∙ cond-false _ _ _ p)))
+      (λ (p : puts done.operation ≡ false). absurd (none-some e (sym (at_target ∙ cond-false _ _ _ p) ∙ h)))
       (cases_Bool (puts done.operation))
 
   other_lawful : (q : Path) (e : Entry) → equal_paths q i.path ≡ false → found fs q ≡ Some e → EntryLawful ns fs e
   other_lawful q e ne h =
       ⊎_elim
-      (λ (out : taken_out ns done.operation i.path q ≡ true). absurd (never_some e (sym h ∙ done.finds q ∙ cond-false _ _ _ ne ∙ cond-true _ _ _ out)))
+      (λ (out : taken_out ns done.operation i.path q ≡ true). absurd (none-some e (sym (done.finds q ∙ cond-false _ _ _ ne ∙ cond-true _ _ _ out) ∙ h)))
       (λ (out : taken_out ns done.operation i.path q ≡ false).
       let was : found es q ≡ Some e = sym (kept q ne out) ∙ h in
       let key = found_key path_of path_sooner total es q e was in

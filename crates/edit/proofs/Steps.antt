@@ -1,5 +1,5 @@
 -- The error options, item by item.
-use Rattle.std.proofs.Common.{◌≡◌, ℕ, ◌+◌, ◌<◌, ◌≤◌, cond, List, [], ◌∷◌, ◌++◌, length, is_some, Some, None, Ok, Err, Option, Result, sym, refl, ap, ◌∙◌, subst, arith}
+use Rattle.std.proofs.Common.{◌≡◌, ℕ, ◌+◌, cond, List, [], ◌∷◌, ◌++◌, length, is_some, Some, None, Ok, Err, Result, sym, refl, ap, ◌∙◌, subst, arith}
 use Rattle.edit.specs.declared.option.ErrorOption.{ErrorOption}
 use Rattle.edit.specs.declared.option.ErrorOption.TheVariants.{Stop, Continue, Rollback}
 use Rattle.edit.specs.Options.{AllDone, NoneRefused, OneRefused, first_refused, left, more, none, performed, refused_after, through, until}
@@ -82,18 +82,6 @@ module _ {C I F : Type 0} (does : C → I → Result C F) where
           continue = through_one c before d all e;
           continue_keeps = performed_one c before d all e;
         }
-
-  -- ---- where a refused item stands
-  some_pair : (k m : ℕ) (f g : F) → ◌≡◌ {A = Option (ℕ × F)} (Some (k, f)) (Some (m, g)) → k ≡ m
-  some_pair k m f g e = let pair : ◌≡◌ {A = ℕ × F} (k, f) (m, g) = cc in ap (λ (x : ℕ × F). x.0) pair
-
-  pub refused_range : (n : ℕ) (c : C) (is : List I) (k : ℕ) (f : F) → refused_after does n c is ≡ Some (k, f) → (n < k) × (k ≤ n + length is)
-  refused_range n c [] k f e = let z : ◌≡◌ {A = ℕ} 0 1 = cc in let never : ⊥ = omega arith in absurd never
-  refused_range n c (i ∷ is) k f e = go (does c i) refl (λ d h. refused_range (n + 1) d is k f h)
-    where
-      go : (r : Result C F) → does c i ≡ r → ((d : C) → refused_after does (n + 1) d is ≡ Some (k, f) → (n + 1 < k) × (k ≤ n + 1 + length is)) → (n < k) × (k ≤ n + length (i ∷ is))
-      go (Ok d) h ih = let later = ih d (sym (refused_ok c i is n d h) ∙ e) in (omega (arith, later.0), omega (arith, later.1))
-      go (Err g) h ih = let here = some_pair (n + 1) k g f (sym (refused_err c i is n g h) ∙ e) in (omega arith, omega arith)
 
   -- ---- where none is refused, each is performed
   pub all_done : (n : ℕ) (c : C) (is : List I) → refused_after does n c is ≡ None → AllDone does c is (until does c is)

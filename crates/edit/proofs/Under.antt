@@ -1,8 +1,11 @@
 -- What lies under a list entry.
-use Rattle.std.proofs.Common.{◌≡◌, ℕ, true, false, List, Some, None, Option, sym, refl, ap, ◌∙◌, subst, ⊎_elim, arith}
+use Rattle.std.proofs.Common.{◌≡◌, true, false, ◌||◌, List, Some, None, Option, sym, refl, ap, ◌∙◌, subst, ⊎_elim, rules}
 use Rattle.std.proofs.lemmas.Bool.{both_ways, cases_Bool, or_cases, or_left, or_right}
+use Rattle.std.proofs.lemmas.Option.{none-some}
 use Rattle.table.proofs.Rows.{same_is, same_refl, same_apart}
+use Rattle.std.specs.Option.{option_eq}
 use Rattle.schema.specs.Depth.{two_deep}
+use Rattle.schema.specs.Equal.{same_path}
 use Rattle.schema.specs.Paths.{around}
 use Rattle.schema.specs.declared.nodes.Node.{Node}
 use Rattle.schema.specs.declared.path.Path.{Path}
@@ -21,8 +24,18 @@ equal_self p = same_refl path_of path_sooner total p
 pub not_equal : (p q : Path) → (p ≡ q → ⊥) → equal_paths p q ≡ false
 not_equal p q ne = same_apart path_of path_sooner total p q ne
 
-pub never_some : {A : Type 0} (x : A) → Some x ≡ None → ⊥
-never_some x e = let z : ◌≡◌ {A = ℕ} 0 1 = cc in omega arith
+-- the derived equality is that of the order
+pub same_equal : (p q : Path) → same_path p q ≡ equal_paths p q
+same_equal p q = search rules
+
+is_at_eq : (o : Option Path) (p : Path) → option_eq same_path o (Some p) ≡ is_at o p
+is_at_eq None p = refl
+is_at_eq (Some q) p = same_equal q p
+
+-- the list around another list's entry says whether a path lies under an entry further out
+pub under_further : (ns : List Node) (p q a : Path) → Some a ≡ around ns q → same_path a p ≡ false → option_eq same_path (around ns a) (Some p) ≡ under ns p q
+under_further ns p q a e h =
+    is_at_eq (around ns a) p ∙ sym (ap (λ b. b || is_at (around ns a) p) (sym (same_equal a p) ∙ h)) ∙ ap (inside ns p) e
 
 module _ (ns : List Node) where
   -- one step or two
@@ -53,7 +66,7 @@ module _ (ns : List Node) where
   module _ (deep : two_deep ns ≡ true) where
     -- an entry does not stand around itself, nor around what stands around it
     pub around_apart : (p a : Path) → around ns p ≡ Some a → around ns a ≡ Some p → ⊥
-    around_apart p a e f = never_some a (sym e ∙ three ns deep p a p e f)
+    around_apart p a e f = none-some a (sym (three ns deep p a p e f) ∙ e)
 
     pub around_other : (p a : Path) → around ns p ≡ Some a → (a ≡ p → ⊥)
     around_other p a e q = around_apart p a e (subst (λ x. around ns x ≡ Some p) (sym q) (e ∙ ap (λ x. Some x) q))
@@ -67,7 +80,7 @@ module _ (ns : List Node) where
         let b = s.0 in
         absurd (⊎_elim
         (λ (same : equal_paths b p ≡ true). around_apart p a e (s.1 ∙ ap (λ x. Some x) (equal_is b p same)))
-        (λ (other : equal_paths b p ≡ false). never_some p (sym (s.2 (λ q. both_ways (equal_paths b p) other (ap (λ x. equal_paths x p) q ∙ equal_self p))) ∙ three ns deep p a b e s.1))
+        (λ (other : equal_paths b p ≡ false). none-some p (sym (three ns deep p a b e s.1) ∙ s.2 (λ q. both_ways (equal_paths b p) other (ap (λ x. equal_paths x p) q ∙ equal_self p))))
         (cases_Bool (equal_paths b p))))
         (λ h. h)
         (cases_Bool (under ns p a))
@@ -91,7 +104,7 @@ module _ (ns : List Node) where
         let b = s.0 in
         absurd (⊎_elim
         (λ (same : equal_paths b p ≡ true). both_ways (under ns p q) out (under_two p q a e (s.1 ∙ ap (λ x. Some x) (equal_is b p same))))
-        (λ (other : equal_paths b p ≡ false). never_some p (sym (s.2 (λ q. both_ways (equal_paths b p) other (ap (λ x. equal_paths x p) q ∙ equal_self p))) ∙ three ns deep q a b e s.1))
+        (λ (other : equal_paths b p ≡ false). none-some p (sym (three ns deep q a b e s.1) ∙ s.2 (λ q. both_ways (equal_paths b p) other (ap (λ x. equal_paths x p) q ∙ equal_self p))))
         (cases_Bool (equal_paths b p))))
         (λ h. h)
         (cases_Bool (under ns p a))

@@ -1,12 +1,13 @@
 -- Edit lists: a count byte, then 16 bytes for each item.
-use Rattle.std.specs.Prelude.{◌≡◌, ℕ, ◌≤◌, List, length, take, Ok, Err, Result, ◌≢◌}
+use Rattle.std.specs.Prelude.{◌≡◌, ℕ, ◌≤◌, List, length, Ok, Err, Result, ◌≢◌}
+use Rattle.table.specs.Slots.{items as list_items}
 use Rattle.encoding.specs.Counts.{counted}
 use Rattle.edit.specs.declared.held.EditList.{EditList}
 use Rattle.edit.specs.declared.item.Item.{Item}
 use Rattle.edit.specs.Items.{item_form}
 
 abbrev pub items : EditList → List Item
-items l = take l.count l.items
+items l = list_items l.items
 
 abbrev pub edit_bytes : List Item → List ℕ
 edit_bytes is = counted item_form is

@@ -1,15 +1,16 @@
 // One item of an edit list.
 ghost use Rattle.edit.specs.Items.{item_form, operation_number};
 ghost use Rattle.edit.specs.Numbers.{operation_at};
-ghost use Rattle.fault.specs.Codes.{StandsFor};
+ghost use Rattle.fault.specs.Codes.{Named};
 ghost use Rattle.std.specs.Prelude.{◌≡◌};
+ghost use Rattle.std.specs.Result.{result_ok};
 ghost use Rattle.std.proofs.Common.{rules};
 
 use encoding::{Coded, Form};
 use schema::Path;
 
 // What an item does to its target.
-#[derive(Clone, Copy)]
+#[derive(Clone, Copy, PartialEq, Eq, Debug)]
 pub enum Operation {
     Merge = 1,
     Replace = 2,
@@ -18,25 +19,31 @@ pub enum Operation {
     Remove = 5,
 }
 
-impl Operation {
-    // The operation of this number.
-    pub fn from_number(number: u8) -> Option<Self>
-        ensures stands { StandsFor operation_number number result }
-        ensures value { result ≡ operation_at number }
-    {
+// A number that no operation has.
+#[derive(Clone, Copy, PartialEq, Eq, Debug)]
+pub struct UnknownOperation(pub u8);
+
+// The operation of a number.
+impl TryFrom<u8> for Operation {
+    type Error = UnknownOperation;
+
+    ghost try_from_gives = { λ n r. Named operation_number (λ e. e.0) n r × (result_ok r ≡ operation_at n) };
+
+    fn try_from(number: u8) -> Result<Self, UnknownOperation> {
         match number {
-            1 => Some(Operation::Merge),
-            2 => Some(Operation::Replace),
-            3 => Some(Operation::Create),
-            4 => Some(Operation::Delete),
-            5 => Some(Operation::Remove),
-            _ => None,
+            1 => Ok(Operation::Merge),
+            2 => Ok(Operation::Replace),
+            3 => Ok(Operation::Create),
+            4 => Ok(Operation::Delete),
+            5 => Ok(Operation::Remove),
+            _ => Err(UnknownOperation(number)),
         }
     }
 }
 
-// An item as it is handed in: the number of an operation, the target and a value.
-#[derive(Clone, Copy)]
+// An item as it is handed in: the number of an operation, the target and a value. The number is plain, as the caller gives it:
+// it is judged when the item's turn comes.
+#[derive(Clone, Copy, PartialEq, Eq, Debug)]
 pub struct Item {
     pub operation: u8,
     pub path: Path,

@@ -15,9 +15,9 @@ mod run;
 
 pub use faults::ItemFault;
 pub use held::EditList;
-pub use item::{Item, Operation};
+pub use item::{Item, Operation, UnknownOperation};
 pub use laws::{items_decide, lists_read_back, options_are, stays_lawful};
 pub use list::ListFault;
 pub use one::apply;
-pub use option::ErrorOption;
+pub use option::{ErrorOption, UnknownOption};
 pub use run::{EditFault, edit};

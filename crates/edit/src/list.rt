@@ -1,5 +1,5 @@
 // Edit lists.
-ghost use Rattle.std.specs.Prelude.{◌≡◌};
+ghost use Rattle.std.specs.Prelude.{◌≡◌, ◌≤◌, length};
 ghost use Rattle.encoding.specs.Counts.{Encoded};
 ghost use Rattle.edit.specs.Items.{item_form};
 ghost use Rattle.edit.specs.Lists.{ListRead, items};
@@ -10,9 +10,10 @@ use crate::item::Item;
 use encoding::NoRoom;
 use fault::Report;
 use schema::Path;
+use table::Slots;
 
 // The bytes are no edit list.
-#[derive(Clone, Copy)]
+#[derive(Clone, Copy, PartialEq, Eq, Debug)]
 pub struct ListFault;
 
 const UNUSED: Item = Item {
@@ -31,17 +32,18 @@ impl EditList {
         ensures { ListRead form.now result }
     {
         let mut items = [UNUSED; 16];
-        match encoding::decode(form, &mut items) {
-            Some(count) => Ok(EditList { items, count }),
-            None => Err(ListFault),
-        }
+        let count = encoding::decode(form, &mut items).ok_or(ListFault)?;
+        Ok(EditList {
+            items: Slots::first(items, count),
+        })
     }
 
     // The items in their order.
     pub fn items(&self) -> &[Item]
-        ensures { result.now ≡ items self.now }
+        ensures items { result.now ≡ items self.now }
+        ensures few { length result.now ≤ 16 }
     {
-        &self.items[0..self.count]
+        self.items.as_slice()
     }
 
     // Writes the edit list to the front of the output, and answers its length.
@@ -53,7 +55,7 @@ impl EditList {
 }
 
 impl ListFault {
-    // Refusal 1.
+    // Refusal 1. Some reports answer an Option or take a path, so one name for all is plainer than `From` for some.
     pub fn report(self) -> Report
         ensures { result ≡ plain 1 }
     {

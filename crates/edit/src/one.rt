@@ -1,7 +1,6 @@
 // What one item does.
 ghost use Rattle.std.specs.Prelude.{◌≡◌, ◌≤◌, not, length};
 ghost use Rattle.config.specs.Configs.{used, with_entry};
-ghost use Rattle.config.specs.Order.{equal_paths};
 ghost use Rattle.edit.specs.Does.{clears, entry_of, first_of, judged, moment, needs_absent, needs_present, put_in, puts, taken_out, under, value_lawful};
 ghost use Rattle.edit.specs.Applied.{Applied};
 ghost use Rattle.schema.specs.Nodes.{nodes};
@@ -10,7 +9,6 @@ use crate::faults::ItemFault;
 use crate::item::{Item, Operation};
 use config::{Choice, Config, Entry};
 use schema::{Node, Path, PathFault, Schema};
-use table::Record;
 
 impl Operation {
     fn puts(self) -> bool
@@ -34,20 +32,14 @@ impl Operation {
     fn needs_absent(self) -> bool
         ensures { result ≡ needs_absent self }
     {
-        matches!(self, Operation::Create)
+        self == Operation::Create
     }
 
     fn needs_present(self) -> bool
         ensures { result ≡ needs_present self }
     {
-        matches!(self, Operation::Delete)
+        self == Operation::Delete
     }
-}
-
-fn equal(a: Path, b: Path) -> bool
-    ensures { result ≡ equal_paths a b }
-{
-    !<Entry as table::Record>::before(a, b) && !<Entry as table::Record>::before(b, a)
 }
 
 // The path lies under the list entry at the target.
@@ -57,34 +49,28 @@ fn is_under(schema: &Schema, target: Path, path: Path) -> bool
     let Some(list) = schema.around(path) else {
         return false;
     };
-    if equal(list, target) {
-        return true;
-    }
-    match schema.around(list) {
-        Some(outer) => equal(outer, target),
-        None => false,
-    }
+    list == target || schema.around(list) == Some(target)
 }
 
 // The paths that an operation on a target leaves.
 #[derive(Clone, Copy)]
-struct Left {
-    schema: Schema,
+struct Left<'a> {
+    schema: &'a Schema,
     operation: Operation,
     target: Path,
 }
 
-impl Choice for Left {
-    ghost chosen = { λ s q. not (taken_out (nodes s.schema) s.operation s.target q) };
+impl Choice for Left<'_> {
+    ghost chosen = { λ s q. not (taken_out (nodes s.schema.now) s.operation s.target q) };
 
     fn keeps(&self, path: Path) -> bool {
         if !self.operation.clears() {
             return true;
         }
-        if is_under(&self.schema, self.target, path) {
+        if is_under(self.schema, self.target, path) {
             return false;
         }
-        self.operation.puts() || !equal(path, self.target)
+        self.operation.puts() || path != self.target
     }
 }
 
@@ -108,29 +94,25 @@ fn check_moment(
 ) -> Result<(), ItemFault>
     ensures { result ≡ first_of (moment (nodes schema.now) (used config.now) operation path) }
 {
-    if config.get(path).is_some() {
-        return if operation.needs_absent() {
-            Err(ItemFault::Present)
-        } else {
-            Ok(())
-        };
+    let here = config.get(path).is_some();
+    if operation.needs_absent() && here {
+        return Err(ItemFault::Present);
     }
-    if operation.needs_present() || operation.puts() && !config.holds(schema, path) {
+    if !here && (operation.needs_present() || operation.puts() && !config.holds(schema, path)) {
         return Err(ItemFault::Absent);
     }
-    if operation.puts() && config.entries().len() >= 48 {
+    if !here && operation.puts() && config.entries().len() >= 48 {
         return Err(ItemFault::Full);
     }
     Ok(())
 }
 
 // The item's operation and node, or its first fault.
+#[tactic(auto, unfolding(crate::specs::Does::judged))]
 fn judge(schema: &Schema, config: &Config, item: Item) -> Result<(Operation, Node), ItemFault>
     ensures { result ≡ judged (nodes schema.now) (used config.now) item }
 {
-    let Some(operation) = Operation::from_number(item.operation) else {
-        return Err(ItemFault::Operation);
-    };
+    let operation = Operation::try_from(item.operation)?;
     let node = schema.check_path(item.path)?;
     if !value_lawful(operation, node, item.value) {
         return Err(ItemFault::Path(PathFault::Value));
@@ -147,10 +129,11 @@ fn put_in(config: &mut Config, node: Node, item: Item, here: bool)
     if matches!(node, Node::List(_)) && here {
         return;
     }
-    let _ = config.put(Entry {
+    let entry = Entry {
         path: item.path,
         value: item.value,
-    });
+    };
+    config.put(entry).unwrap();
 }
 
 // Performs the item on the configuration, or refuses it by its first fault and changes nothing.
@@ -160,7 +143,7 @@ pub fn apply(schema: &Schema, config: &mut Config, item: Item) -> Result<(), Ite
     let (operation, node) = judge(schema, config, item)?;
     let here = config.get(item.path).is_some();
     let left = Left {
-        schema: *schema,
+        schema,
         operation,
         target: item.path,
     };

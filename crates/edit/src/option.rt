@@ -1,25 +1,31 @@
 // The error options.
 ghost use Rattle.edit.specs.Options.{option_number};
-ghost use Rattle.fault.specs.Codes.{StandsFor};
+ghost use Rattle.fault.specs.Codes.{Named};
 
 // What a refused item does to the others: those before it are kept, or all that can be performed, or none.
-#[derive(Clone, Copy)]
+#[derive(Clone, Copy, PartialEq, Eq, Debug)]
 pub enum ErrorOption {
     Stop = 1,
     Continue = 2,
     Rollback = 3,
 }
 
-impl ErrorOption {
-    // The option of this number.
-    pub fn from_number(number: u32) -> Option<Self>
-        ensures { StandsFor option_number number result }
-    {
+// A number that no option has.
+#[derive(Clone, Copy, PartialEq, Eq, Debug)]
+pub struct UnknownOption(pub u32);
+
+// The option of a number.
+impl TryFrom<u32> for ErrorOption {
+    type Error = UnknownOption;
+
+    ghost try_from_gives = { Named option_number (λ e. e.0) };
+
+    fn try_from(number: u32) -> Result<Self, UnknownOption> {
         match number {
-            1 => Some(ErrorOption::Stop),
-            2 => Some(ErrorOption::Continue),
-            3 => Some(ErrorOption::Rollback),
-            _ => None,
+            1 => Ok(ErrorOption::Stop),
+            2 => Ok(ErrorOption::Continue),
+            3 => Ok(ErrorOption::Rollback),
+            _ => Err(UnknownOption(number)),
         }
     }
 }

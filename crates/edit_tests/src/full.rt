@@ -1,9 +1,8 @@
 // A configuration has at most 48 entries.
 use super::given::{
-    CREATE, DELETE, MERGE, Numbers, REMOVE, REPLACE, Step, entry, has_keys_to, item, keys_to,
+    CREATE, DELETE, MERGE, Numbers, REMOVE, REPLACE, Step, entry, has_keys_to, keys_to, perform,
     schema,
 };
-use edit::apply;
 use std::process::Abort;
 use std::test::Fail;
 
@@ -43,14 +42,9 @@ fn follow(rt: &impl Abort, first: Numbers, last: u32, cases: &[Case]) -> Result<
     let schema = schema()?;
     let mut config = keys_to(rt, last);
     assert!(rt; config.put(entry(first)).is_ok());
-    for case in cases {
-        let (step, number, last, rest) = *case;
-        let told = match apply(&schema, &mut config, item(step)) {
-            Ok(()) => 0,
-            Err(fault) => fault.number(),
-        };
-        assert_eq!(rt; told, number, "{step:?}");
-        has_keys_to(rt, &config, last, rest, &step)?;
+    for &(step, number, last, rest) in cases {
+        perform(rt, &schema, &mut config, step, number);
+        has_keys_to(rt, &config, last, rest, &step);
     }
     Ok(())
 }

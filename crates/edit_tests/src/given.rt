@@ -1,7 +1,7 @@
 // What the tests share: entries, items and edit lists by their numbers, and a schema.
+// `config_tests` has four such helpers too: a crate of their own for these would be no plainer.
 use config::{Config, Entry};
-use edit::{EditFault, EditList, Item};
-use fault::Report;
+use edit::{EditFault, EditList, Item, apply};
 use schema::{NodeRow, Path, Schema};
 use std::alloc::{AllocError, Global};
 use std::fmt::Debug;
@@ -47,10 +47,7 @@ pub(super) fn schema() -> Result<Schema, Fail> {
         row(2, 1, 70, 80),
         row(2, 0, 50, 60),
     ];
-    match Schema::check(&rows) {
-        Ok(schema) => Ok(schema),
-        Err(_) => Err(Fail::new("the schema is lawful")),
-    }
+    Schema::check(&rows).map_err(|_| Fail::new("the schema is lawful"))
 }
 
 pub(super) fn entry(numbers: Numbers) -> Entry {
@@ -72,31 +69,37 @@ pub(super) fn item(step: Step) -> Item {
 
 pub(super) fn config(rt: &impl Abort, entries: &[Numbers]) -> Config {
     let mut config = Config::empty();
-    for numbers in entries {
-        assert!(rt; config.put(entry(*numbers)).is_ok(), "there is a place");
+    for &numbers in entries {
+        assert!(rt; config.put(entry(numbers)).is_ok(), "there is a place");
     }
     config
 }
 
-// The configuration has these entries and no others. The step is told where it has not.
-pub(super) fn has(
+// Performs the item on the configuration. Its refusal number is this one, or 0 where it is performed.
+pub(super) fn perform(
     rt: &impl Abort,
-    config: &Config,
-    expected: &[Numbers],
-    step: &impl Debug,
-) -> Result<(), Fail> {
+    schema: &Schema,
+    config: &mut Config,
+    step: Step,
+    number: u32,
+) {
+    let told = match apply(schema, config, item(step)) {
+        Ok(()) => 0,
+        Err(fault) => fault.number(),
+    };
+    assert_eq!(rt; told, number, "{step:?}");
+}
+
+// The configuration has these entries and no others. The step is told where it has not.
+pub(super) fn has(rt: &impl Abort, config: &Config, expected: &[Numbers], step: &impl Debug) {
     let entries = config.entries();
     assert!(rt;
         entries.len() == expected.len(),
         "{step:?}: how many entries"
     );
-    for i in 0..entries.len() {
-        let Some(numbers) = expected.get(i) else {
-            return Err(Fail::new("an entry too many"));
-        };
-        assert!(rt; entries[i] == entry(*numbers), "{step:?}: place {i}");
+    for (i, (&held, &numbers)) in entries.iter().zip(expected).enumerate() {
+        assert!(rt; held == entry(numbers), "{step:?}: place {i}");
     }
-    Ok(())
 }
 
 // Entries of the outer list with the keys 2 to `last`.
@@ -118,21 +121,19 @@ pub(super) fn has_keys_to(
     last: u32,
     rest: &[Numbers],
     step: &impl Debug,
-) -> Result<(), Fail> {
+) {
     let mut expected = keys_to(rt, last);
-    for numbers in rest {
-        assert!(rt; expected.put(entry(*numbers)).is_ok(), "there is a place");
+    for &numbers in rest {
+        assert!(rt; expected.put(entry(numbers)).is_ok(), "there is a place");
     }
     assert!(rt; *config == expected, "{step:?}");
-    Ok(())
 }
 
 // The bytes of an edit list, by hand: the count, then operation, node, two zero bytes, k1, k2 and value of each item.
 pub(super) fn bytes(heap: Global, count: u8, steps: &[Step]) -> Result<Vec<u8>, AllocError> {
     let mut bytes = Vec::new(heap);
     bytes.push(count)?;
-    for step in steps {
-        let (operation, node, k1, k2, value) = *step;
+    for &(operation, node, k1, k2, value) in steps {
         bytes.extend_from_slice(&[operation, node, 0, 0])?;
         bytes.extend_from_slice(&k1.to_be_bytes())?;
         bytes.extend_from_slice(&k2.to_be_bytes())?;
@@ -143,30 +144,13 @@ pub(super) fn bytes(heap: Global, count: u8, steps: &[Step]) -> Result<Vec<u8>, 
 
 pub(super) fn list(heap: Global, count: u8, steps: &[Step]) -> Result<EditList, Fail> {
     let bytes = bytes(heap, count, steps)?;
-    match EditList::read(bytes.as_slice()) {
-        Ok(list) => Ok(list),
-        Err(_) => Err(Fail::new("an edit list is read")),
-    }
+    EditList::read(bytes.as_slice()).map_err(|_| Fail::new("an edit list is read"))
 }
 
 // What the tests know of an answer: the eight numbers of a refusal, or zeros where all is done.
 pub(super) fn told(answer: Result<(), EditFault>) -> [u32; 8] {
     match answer {
         Ok(()) => [0; 8],
-        Err(fault) => eight(fault.report()),
+        Err(fault) => fault.report().fields(),
     }
-}
-
-// The eight numbers of a refusal, in their order.
-pub(super) fn eight(report: Report) -> [u32; 8] {
-    [
-        report.number,
-        report.layer,
-        report.cause,
-        report.item,
-        report.kept,
-        report.node,
-        report.k1,
-        report.k2,
-    ]
 }

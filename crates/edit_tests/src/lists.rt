@@ -1,26 +1,16 @@
 // Which bytes are an edit list.
-use super::given::{Step, bytes, eight, list};
-use edit::{EditList, Item};
+use super::given::{Step, bytes, item, list};
+use edit::EditList;
 use std::process::Abort;
 use std::test::Fail;
-
-fn step(item: Item) -> Step {
-    (
-        item.operation,
-        item.path.node,
-        item.path.k1,
-        item.path.k2,
-        item.value,
-    )
-}
 
 // The list writes these bytes at the front of an output, and the rest of that stays.
 fn encodes(rt: &impl Abort, list: &EditList, expected: &[u8]) {
     let mut out = [170u8; 300];
     assert_eq!(rt; list.encode(&mut out).ok(), Some(expected.len()));
-    for i in 0..out.len() {
-        let byte = expected.get(i).copied().unwrap_or(170);
-        assert_eq!(rt; out[i], byte, "byte {i}");
+    for (i, &byte) in out.iter().enumerate() {
+        let wanted = expected.get(i).copied().unwrap_or(170);
+        assert_eq!(rt; byte, wanted, "byte {i}");
     }
 }
 
@@ -32,7 +22,7 @@ fn accepted(rt: &impl Abort, bytes: &[u8]) -> Result<bool, Fail> {
             Ok(true)
         }
         Err(fault) => {
-            assert_eq!(rt; eight(fault.report()), [1, 2, 0, 0, 0, 0, 0, 0]);
+            assert_eq!(rt; fault.report().fields(), [1, 2, 0, 0, 0, 0, 0, 0]);
             Ok(false)
         }
     }
@@ -52,8 +42,8 @@ fn items(rt: HostRuntime) -> Result<(), Fail> {
     let list = list(rt.alloc(), 3, &STEPS)?;
     let items = list.items();
     assert!(rt; items.len() == 3);
-    for i in 0..3 {
-        assert_eq!(rt; step(items[i]), STEPS[i]);
+    for (&held, step) in items.iter().zip(STEPS) {
+        assert_eq!(rt; held, item(step));
     }
     Ok(())
 }
@@ -107,8 +97,7 @@ const COUNTS: [(u8, usize, bool); 11] = [
 #[test]
 fn counts(rt: HostRuntime) -> Result<(), Fail> {
     let steps = [(3, 1, 5, 0, 0); 17];
-    for case in COUNTS {
-        let (byte, count, expected) = case;
+    for (byte, count, expected) in COUNTS {
         assert!(rt; count <= 17);
         let bytes = bytes(rt.alloc(), byte, &steps[0..count])?;
         assert_eq!(rt;
@@ -124,10 +113,7 @@ fn counts(rt: HostRuntime) -> Result<(), Fail> {
 }
 
 fn read_count(bytes: &[u8]) -> Option<usize> {
-    match EditList::read(bytes) {
-        Ok(list) => Some(list.items().len()),
-        Err(_) => None,
-    }
+    Some(EditList::read(bytes).ok()?.items().len())
 }
 
 // A place in the bytes of the three items, a byte to stand there, and whether they are then read.
@@ -148,8 +134,7 @@ const BYTES: [(usize, u8, bool); 12] = [
 
 #[test]
 fn other_bytes(rt: HostRuntime) -> Result<(), Fail> {
-    for case in BYTES {
-        let (place, byte, expected) = case;
+    for (place, byte, expected) in BYTES {
         let mut bytes = bytes(rt.alloc(), 3, &STEPS)?;
         assert!(rt; place < bytes.len());
         bytes[place] = byte;

@@ -1,6 +1,5 @@
-// One item on a configuration.
-use super::given::{Numbers, Step, config, has, item, schema};
-use edit::apply;
+// Each operation on one target.
+use super::given::{CREATE, DELETE, MERGE, Numbers, REMOVE, REPLACE, config, has, perform, schema};
 use std::process::Abort;
 use std::test::Fail;
 
@@ -17,20 +16,32 @@ pub(super) const HELD: [Numbers; 9] = [
     (5, 3, 0, 70),
 ];
 
-// An item, its refusal number, 0 for none, and the entries afterwards.
-pub(super) type Case = (Step, u32, &'static [Numbers]);
+// A refusal number, 0 for none, and the entries afterwards.
+pub(super) type Outcome<'a> = (u32, &'a [Numbers]);
 
-pub(super) fn hold(rt: &impl Abort, cases: &[Case]) -> Result<(), Fail> {
+// Each operation, and whether its item carries the target's value: an item that takes out carries 0.
+const OPERATIONS: [(u8, bool); 5] = [
+    (MERGE, true),
+    (REPLACE, true),
+    (CREATE, true),
+    (DELETE, false),
+    (REMOVE, false),
+];
+
+// What merge, replace, create, delete and remove come to on the target.
+pub(super) fn hold(
+    rt: &impl Abort,
+    target: Numbers,
+    outcomes: [Outcome<'_>; 5],
+) -> Result<(), Fail> {
     let schema = schema()?;
-    for case in cases {
-        let (step, number, after) = *case;
+    let (node, k1, k2, value) = target;
+    for (&(operation, puts), (number, after)) in OPERATIONS.iter().zip(outcomes) {
+        let carried = if puts { value } else { 0 };
+        let step = (operation, node, k1, k2, carried);
         let mut config = config(rt, &HELD);
-        let told = match apply(&schema, &mut config, item(step)) {
-            Ok(()) => 0,
-            Err(fault) => fault.number(),
-        };
-        assert_eq!(rt; told, number, "{step:?}");
-        has(rt, &config, after, &step)?;
+        perform(rt, &schema, &mut config, step, number);
+        has(rt, &config, after, &step);
     }
     Ok(())
 }

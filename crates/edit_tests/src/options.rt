@@ -2,7 +2,7 @@
 use super::given::{
     CREATE, DELETE, MERGE, Numbers, REMOVE, REPLACE, Step, config, has, list, schema, told,
 };
-use edit::{ErrorOption, Operation, edit};
+use edit::{ErrorOption, Operation, UnknownOperation, UnknownOption, edit};
 use std::alloc::Global;
 use std::process::Abort;
 use std::test::Fail;
@@ -32,15 +32,14 @@ fn hold(
     let list = list(heap, count, steps)?;
     let [number, item, node, k1, k2] = first;
     let layer = if number == 0 { 0 } else { 3 };
-    for i in 0..3 {
-        let (kept, after) = left[i];
+    for (&option, (kept, after)) in OPTIONS.iter().zip(left) {
         let mut config = config(rt, &HELD);
         assert_eq!(rt;
-            told(edit(&schema, &mut config, &list, OPTIONS[i])),
+            told(edit(&schema, &mut config, &list, option)),
             [number, layer, 0, item, kept, node, k1, k2],
-            "option {i}"
+            "{option:?}"
         );
-        has(rt, &config, after, &i)?;
+        has(rt, &config, after, &option);
     }
     Ok(())
 }
@@ -155,38 +154,26 @@ fn sixteen(rt: HostRuntime) -> Result<(), Fail> {
     )
 }
 
-fn option_number(option: Option<ErrorOption>) -> u32 {
-    match option {
-        Some(ErrorOption::Stop) => 1,
-        Some(ErrorOption::Continue) => 2,
-        Some(ErrorOption::Rollback) => 3,
-        None => 0,
-    }
-}
-
-fn operation_number(operation: Option<Operation>) -> u8 {
-    match operation {
-        Some(Operation::Merge) => MERGE,
-        Some(Operation::Replace) => REPLACE,
-        Some(Operation::Create) => CREATE,
-        Some(Operation::Delete) => DELETE,
-        Some(Operation::Remove) => REMOVE,
-        None => 0,
-    }
-}
+const OPERATIONS: [(u8, Operation); 5] = [
+    (MERGE, Operation::Merge),
+    (REPLACE, Operation::Replace),
+    (CREATE, Operation::Create),
+    (DELETE, Operation::Delete),
+    (REMOVE, Operation::Remove),
+];
 
 #[test]
 fn numbers(rt: HostRuntime) {
-    for number in [1, 2, 3] {
-        assert_eq!(rt; option_number(ErrorOption::from_number(number)), number);
+    for (&number, option) in [1, 2, 3].iter().zip(OPTIONS) {
+        assert_eq!(rt; ErrorOption::try_from(number), Ok(option));
     }
     for number in [0, 4, 255, u32::MAX] {
-        assert_eq!(rt; option_number(ErrorOption::from_number(number)), 0);
+        assert_eq!(rt; ErrorOption::try_from(number), Err(UnknownOption(number)));
     }
-    for number in [1, 2, 3, 4, 5] {
-        assert_eq!(rt; operation_number(Operation::from_number(number)), number);
+    for (number, operation) in OPERATIONS {
+        assert_eq!(rt; Operation::try_from(number), Ok(operation));
     }
     for number in [0, 6, 255] {
-        assert_eq!(rt; operation_number(Operation::from_number(number)), 0);
+        assert_eq!(rt; Operation::try_from(number), Err(UnknownOperation(number)));
     }
 }

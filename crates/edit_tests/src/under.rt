@@ -1,6 +1,5 @@
 // What lies under a list, two levels down.
-use super::given::{DELETE, MERGE, Numbers, REMOVE, REPLACE, Step, config, has, item, schema};
-use edit::apply;
+use super::given::{DELETE, MERGE, Numbers, REMOVE, REPLACE, Step, config, has, perform, schema};
 use std::test::Fail;
 
 // Three entries of the outer list. Entry 3 has three entries of the inner list, and each of the others one.
@@ -111,10 +110,9 @@ const STEPS: [(Step, &'static [Numbers]); 8] = [
 fn one_after_another(rt: HostRuntime) -> Result<(), Fail> {
     let schema = schema()?;
     let mut config = config(&rt, &ALL);
-    for case in STEPS {
-        let (step, after) = case;
-        assert!(rt; apply(&schema, &mut config, item(step)).is_ok(), "{step:?}");
-        has(&rt, &config, after, &step)?;
+    for (step, after) in STEPS {
+        perform(&rt, &schema, &mut config, step, 0);
+        has(&rt, &config, after, &step);
     }
     Ok(())
 }

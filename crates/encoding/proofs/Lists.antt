@@ -1,12 +1,30 @@
 -- Counted lists, record by record.
-use Rattle.std.proofs.Common.{◌≡◌, ℕ, ◌+◌, ◌-◌, ◌*◌, ◌<◌, ◌≤◌, List, [], ◌∷◌, ◌++◌, length, get_or, take, drop, set, sym, refl, ap, ◌∙◌, not-suc-le-zero, arith, take-add}
+use Rattle.std.proofs.Common.{◌≡◌, ℕ, ◌+◌, ◌-◌, ◌*◌, ◌/◌, ◌<◌, ◌≤◌, Bool, true, false, zero, suc, MatchBool, ◌≢◌, List, [], ◌∷◌, ◌++◌, length, get_or, take, drop, set, sym, refl, ap, ◌∙◌, not-suc-le-zero, arith, take-add}
 use borrow.Rule.Slice.PartMut.{put_mid}
-use Rattle.std.specs.List.{flat_map}
-use Rattle.std.proofs.lemmas.List.{append_assoc, take-append-drop, take_at, drop_at, drop_more, drop-drop, drop-set-lt, take_more, take_more_set, take_all, flat_map_more, length-take-le, length-append}
+use Rattle.std.specs.List.{AllWithin, HoldsAt, flat_map}
+use Rattle.std.proofs.lemmas.Iterator.Search.{true_from_All}
+use Rattle.std.proofs.lemmas.Bool.{false≢true}
+use Rattle.std.specs.Simd.{first_chunks}
+use Rattle.std.proofs.lemmas.List.{append_assoc, take-append-drop, take_at, drop_at, drop_more, drop-drop, drop-set-lt, take_more, take_more_set, take_all, flat_map_more, length-take-le, length-append, length-drop}
 use Rattle.std.proofs.lemmas.Slice.{take-put_mid, drop-put_mid}
 use Rattle.encoding.specs.declared.form.Form.{Form}
-use Rattle.encoding.specs.Counts.{slot_bytes, record_bytes, counted}
+use Rattle.encoding.specs.Counts.{FormsKnown, slot_bytes, record_bytes, counted}
 use Rattle.encoding.proofs.Words.{form_same}
+
+-- ---- a list's bytes in parts of 16
+part : (k i : ℕ) (bytes d : List ℕ) → i < k → get_or (first_chunks 16 k bytes) i d ≡ take 16 (drop (16 * i) bytes)
+part zero i bytes d lt = absurd (not-suc-le-zero lt)
+part (suc k) zero bytes d lt = refl
+part (suc k) (suc i) bytes d lt =
+    part k i (drop 16 bytes) d (omega arith) ∙ ap (take 16) (drop-drop (16 * i) 16 bytes ∙ ap (λ n. drop n bytes) (omega arith))
+
+pub parts_slots : (bytes : List ℕ) (forms : List (List ℕ)) (count : ℕ) → length bytes ≡ 1 + 16 * count → (let rest = take (length bytes - 1) (drop 1 bytes) in forms ≡ first_chunks 16 (length rest / 16) rest) → (i : ℕ) (d : List ℕ) → i < count → get_or forms i d ≡ slot_bytes bytes i
+parts_slots bytes forms count size is i d lt =
+    let rest : take (length bytes - 1) (drop 1 bytes) ≡ drop 1 bytes = take_all (length bytes - 1) (drop 1 bytes) (omega (arith, length-drop 1 bytes)) in
+    let many : length (drop 1 bytes) / 16 ≡ count = omega (arith, length-drop 1 bytes) in
+    ap (λ l. get_or l i d) (is ∙ ap (λ l. first_chunks 16 (length l / 16) l) rest ∙ ap (λ k. first_chunks 16 k (drop 1 bytes)) many)
+    ∙ part count i (drop 1 bytes) d lt
+    ∙ ap (take 16) (drop-drop (16 * i) 1 bytes ∙ ap (λ n. drop n bytes) (omega arith))
 
 module _ {X : Type 0} (form : X → Form) where
   pub length_joined : (xs : List X) → length (flat_map (record_bytes form) xs) ≡ 16 * length xs
@@ -70,6 +88,17 @@ module _ {X : Type 0} (form : X → Form) where
   pub slot_known : (xs : List X) (i : ℕ) → i < length xs → (x : X) × (slot_bytes (counted form xs) i ≡ record_bytes form x)
   slot_known [] i lt = absurd (not-suc-le-zero lt)
   slot_known (x ∷ xs) i lt = (get_or (x ∷ xs) i x, counted_slot (x ∷ xs) i x lt)
+
+  -- ---- the forms of a list's bytes
+  abbrev pub IsRecord : List ℕ → Type 0
+  IsRecord bytes = (x : X) × (bytes ≡ record_bytes form x)
+
+  abbrev pub IsNoRecord : List ℕ → Type 0
+  IsNoRecord bytes = (x : X) → bytes ≢ record_bytes form x
+
+  pub forms_known : (forms : List (List ℕ)) (r : Bool) → MatchBool r (AllWithin IsRecord forms 0 (length forms)) ((k : ℕ) × (k < length forms) × HoldsAt IsNoRecord forms k) → FormsKnown form forms r
+  forms_known forms true known = (λ _ k d lt. known k d (omega arith) lt, λ _. refl)
+  forms_known forms false known = (λ e. absurd (false≢true e), true_from_All IsRecord IsNoRecord false forms (λ bytes is not. not is.0 is.1) known)
 
   -- ---- reading
   -- the bytes so far are those of the records so far, and the slots past them are as they were

@@ -1,5 +1,5 @@
 -- Counted lists: a count byte, then the form of each record. `form` gives a record's form.
-use Rattle.std.specs.Prelude.{◌≡◌, ℕ, ◌+◌, ◌*◌, ◌<◌, ◌≤◌, Bool, List, ◌∷◌, ◌++◌, length, take, drop, Some, None, Ok, Err, Decides, Option, Result, ◌≢◌, slice_index}
+use Rattle.std.specs.Prelude.{◌≡◌, ℕ, ◌+◌, ◌*◌, ◌<◌, ◌≤◌, Bool, List, ◌∷◌, ◌++◌, length, take, drop, Some, None, Ok, Err, Decides, Option, Result, ◌≢◌, slice_index, All}
 use Rattle.std.specs.List.{flat_map}
 use Rattle.encoding.specs.declared.form.Form.{Form}
 use Rattle.encoding.specs.Forms.{form_bytes}
@@ -34,14 +34,14 @@ module _ {X : Type 0} (form : X → Form) where
       (length xs < 256) × (n ≡ length (counted xs)) × (n ≤ length before) × (after ≡ counted xs ++ drop n before)
   Encoded xs before after (Err f) = (length xs < 256 → length before < length (counted xs)) × (after ≡ before)
 
-  -- the bytes of a slot are this record's, or no record's
-  abbrev pub SlotRead : List ℕ → ℕ → Option X → Type 0
-  SlotRead bytes i (Some x) = slot_bytes bytes i ≡ record_bytes x
-  SlotRead bytes i None = (x : X) → slot_bytes bytes i ≢ record_bytes x
+  -- the bytes are this record's, or no record's
+  abbrev pub RecordRead : List ℕ → Option X → Type 0
+  RecordRead bytes (Some x) = bytes ≡ record_bytes x
+  RecordRead bytes None = (x : X) → bytes ≢ record_bytes x
 
-  -- the bytes of each slot are some record's
-  abbrev pub SlotsKnown : List ℕ → ℕ → Bool → Type 0
-  SlotsKnown bytes n r = Decides r ((i : ℕ) → i < n → (x : X) × (slot_bytes bytes i ≡ record_bytes x))
+  -- each form's bytes are some record's
+  abbrev pub FormsKnown : List (List ℕ) → Bool → Type 0
+  FormsKnown forms r = Decides r (All (λ bytes. (x : X) × (bytes ≡ record_bytes x)) forms)
 
   -- Bytes are accepted if they are the counted list of as many records as there are slots at most. These are then in the front
   -- of the slots, and the slots past them stay. Else all slots stay.

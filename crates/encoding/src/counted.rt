@@ -1,11 +1,11 @@
 // Counted lists of records.
-ghost use Rattle.encoding.specs.Counts.{CountRead, Decoded, Encoded, OfForm, SlotRead, SlotsKnown};
+ghost use Rattle.encoding.specs.Counts.{CountRead, Decoded, Encoded, FormsKnown, OfForm, RecordRead};
 ghost use Rattle.encoding.specs.declared.form.Form.{Form};
-ghost use Rattle.std.specs.Prelude.{◌≡◌, ◌+◌, ◌*◌, ◌<◌, ◌≤◌, length};
+ghost use Rattle.std.specs.Prelude.{◌≡◌};
 
 use crate::form::Form;
 
-// A record that has a form.
+// A record that has a form. From and TryFrom have no law that a record is known by its form, so the conversions are its own.
 pub trait Coded: Copy {
     ghost form: { Self → Form };
 
@@ -21,7 +21,7 @@ pub trait Coded: Copy {
 }
 
 // The output has no room for the counted list, or there are more records than a count byte can tell.
-#[derive(Clone, Copy)]
+#[derive(Clone, Copy, PartialEq, Eq, Debug)]
 pub struct NoRoom;
 
 // Writes the counted list of the records to the front of the output, and answers its length.
@@ -33,9 +33,10 @@ pub fn encode<T: Coded>(records: &[T], out: &mut [u8]) -> Result<usize, NoRoom>
         return Err(NoRoom);
     }
     out[0] = count as u8;
-    for i in 0..count {
+    // A proof knows only the length of what writes through chunks_exact_mut or as_chunks_mut leave, so ranges are written.
+    for (i, record) in records.iter().enumerate() {
         let at = 1 + 16 * i;
-        out[at..at + 16].copy_from_slice(&records[i].to_form().to_bytes());
+        out[at..at + 16].copy_from_slice(&record.to_form().to_bytes());
     }
     Ok(1 + 16 * count)
 }
@@ -44,37 +45,25 @@ pub fn encode<T: Coded>(records: &[T], out: &mut [u8]) -> Result<usize, NoRoom>
 fn count_of(bytes: &[u8], most: usize) -> Option<usize>
     ensures { CountRead bytes.now most result }
 {
-    if bytes.is_empty() {
-        return None;
-    }
-    let count = bytes[0] as usize;
+    let count = usize::from(*bytes.first()?);
     if count > most || bytes.len() != 1 + 16 * count {
         return None;
     }
     Some(count)
 }
 
-// The record of the i-th form after the count byte, if it is a record's.
-fn slot<T: Coded>(bytes: &[u8], i: usize) -> Option<T>
-    requires { 1 + 16 * i + 16 ≤ length bytes.now }
-    ensures { SlotRead T.form bytes.now i result }
+// The record of a form's bytes, if it is a record's.
+fn read<T: Coded>(bytes: &[u8]) -> Option<T>
+    ensures { RecordRead T.form bytes.now result }
 {
-    let at = 1 + 16 * i;
-    let of = Form::from_bytes(&bytes[at..at + 16])?;
-    T::from_form(of)
+    T::from_form(Form::from_bytes(bytes)?)
 }
 
-// Each of the forms after the count byte is a record's.
-fn all_known<T: Coded>(bytes: &[u8], count: usize) -> bool
-    requires { length bytes.now ≡ 1 + 16 * count }
-    ensures { SlotsKnown T.form bytes.now count result }
+// Each of the forms is a record's.
+fn all_known<T: Coded>(forms: &[[u8; 16]]) -> bool
+    ensures { FormsKnown T.form forms.now result }
 {
-    for i in 0..count {
-        let Some(_) = slot::<T>(bytes, i) else {
-            return false;
-        };
-    }
-    true
+    forms.iter().all(|form| read::<T>(form).is_some())
 }
 
 // Reads a counted list into the front of the slots, and answers the count. Where the bytes are no counted list of as many
@@ -83,11 +72,13 @@ pub fn decode<T: Coded>(bytes: &[u8], slots: &mut [T]) -> Option<usize>
     ensures { Decoded T.form bytes.now slots.old slots.new result }
 {
     let count = count_of(bytes, slots.len())?;
-    if !all_known::<T>(bytes, count) {
+    let (forms, _) = bytes[1..].as_chunks::<16>();
+    if !all_known::<T>(forms) {
         return None;
     }
-    for i in 0..count {
-        if let Some(record) = slot(bytes, i) {
+    // A proof knows only the length of what a zip of iter_mut with the forms leaves, so the slots are written by index.
+    for (i, form) in forms.iter().enumerate() {
+        if let Some(record) = read(form) {
             slots[i] = record;
         }
     }

@@ -1,6 +1,6 @@
 // A form of 16 bytes.
-ghost use Rattle.std.specs.Prelude.{◌≡◌, ◌+◌, ◌≤◌, length, take, drop};
-ghost use Rattle.encoding.specs.Forms.{FormRead, form_bytes, word};
+ghost use Rattle.std.specs.Prelude.{◌≡◌};
+ghost use Rattle.encoding.specs.Forms.{FormRead, form_bytes};
 
 // Four head bytes, then two keys and a value.
 #[derive(Clone, Copy)]
@@ -14,16 +14,8 @@ pub struct Form {
     pub value: u32,
 }
 
-// The number of the four bytes from this place on, the most significant first.
-fn word_at(bytes: &[u8], at: usize) -> u32
-    requires { at + 4 ≤ length bytes.now }
-    ensures { word result ≡ take 4 (drop at bytes.now) }
-{
-    u32::from_be_bytes([bytes[at], bytes[at + 1], bytes[at + 2], bytes[at + 3]])
-}
-
 impl Form {
-    // The form's bytes.
+    // The form's bytes. A method and no From, as `from_bytes` is one.
     pub fn to_bytes(self) -> [u8; 16]
         ensures { result ≡ form_bytes self }
     {
@@ -35,21 +27,21 @@ impl Form {
         ]
     }
 
-    // The form of these bytes; none unless there are 16.
+    // The form of these bytes; none unless there are 16. TryFrom is no plainer: its error could tell no more than this.
     pub fn from_bytes(bytes: &[u8]) -> Option<Self>
         ensures { FormRead bytes.now result }
     {
-        if bytes.len() != 16 {
+        let &[a, b, c, d, e, f, g, h, i, j, k, l, m, n, o, p] = bytes else {
             return None;
-        }
+        };
         Some(Form {
-            a: bytes[0],
-            b: bytes[1],
-            c: bytes[2],
-            d: bytes[3],
-            k1: word_at(bytes, 4),
-            k2: word_at(bytes, 8),
-            value: word_at(bytes, 12),
+            a,
+            b,
+            c,
+            d,
+            k1: u32::from_be_bytes([e, f, g, h]),
+            k2: u32::from_be_bytes([i, j, k, l]),
+            value: u32::from_be_bytes([m, n, o, p]),
         })
     }
 }

@@ -1,5 +1,5 @@
 -- An edit by the parts of its call.
-use Rattle.std.proofs.Common.{◌≡◌, ℕ, ◌-◌, ◌≤◌, Bool, true, false, cond, not, ◌&&◌, eqb, List, length, get_or, is_some, is_ok, Some, None, Ok, Err, Option, Result, sym, refl, ap, ◌∙◌, subst, arith}
+use Rattle.std.proofs.Common.{◌≡◌, ℕ, ◌-◌, ◌≤◌, Bool, true, false, cond, ◌&&◌, eqb, List, length, get_or, is_ok, Some, None, Ok, Err, Option, Result, sym, refl, ap, ◌∙◌, subst, arith}
 use Rattle.std.proofs.lemmas.List.{length-take-le}
 use Rattle.std.proofs.lemmas.Bool.{and_parts, eqb-true}
 use Rattle.schema.specs.declared.nodes.Node.{Node}
@@ -22,14 +22,11 @@ use Rattle.edit.specs.declared.run.EditFault.{EditFault}
 use Rattle.calls.specs.declared.call.Answer.{Answer}
 use Rattle.calls.specs.declared.call.Answer.TheVariants.{Refused}
 use Rattle.calls.specs.declared.faults.EngineFault.{EngineFault}
-use Rattle.calls.specs.declared.faults.EngineFault.TheVariants.{Item as at_item, Plain}
-use Rattle.calls.specs.declared.faults.Refusal.TheVariants.{EditList as no_list, SessionNumber, OptionNumber, EngineOff}
-use Rattle.session.specs.Numbers.{is_session}
+use Rattle.calls.specs.declared.faults.EngineFault.TheVariants.{Item as at_item}
 use Rattle.model.specs.Acts.{nodes_of}
 use Rattle.model.specs.Model.{Model}
 use Rattle.model.specs.Refusals.{first, option_at, edit_refusals}
-use Rattle.model.specs.Steps.{ReadAs, Edits, EditsItems, EditsUnless, edit_answer, no_item}
-use Rattle.model.proofs.Tables.{not_false}
+use Rattle.model.specs.Steps.{Edits, EditsItems, EditsUnless, edit_answer, no_item}
 use Rattle.engine.specs.Checks.{ItemsBy}
 
 fault_made : ItemFault → ℕ → ℕ → Path → EditFault
@@ -45,53 +42,28 @@ item_refused ns o c d is f e =
     let same : fault_made f.fault f.item f.kept f.path ≡ fault_made f.fault f.item (kept (does ns) o (used c) is f.item) (get_or is (f.item - 1) no_item).path = cc in
     ap (λ (x : EditFault). Refused (at_item x)) same ∙ sym (ap (edit_answer ns o (used c) is) r.first)
 
-read_of : Result EditList ListFault → Option (List Item)
-read_of (Ok l) = Some (items l)
-read_of (Err f) = None
-
 few_items : (l : EditList) → length (items l) ≤ 16
-few_items l = omega (arith, length-take-le l.count l.items (omega (arith, l.few, l.whole)), l.few)
+few_items l = let t = l.items in omega (arith, length-take-le t.count t.slots (omega (arith, t.few, t.whole)), t.few)
 
-read_is : (bytes : List ℕ) (l : Result EditList ListFault) → ListRead bytes l → ReadAs bytes (read_of l)
-unfolding read_of
-read_is bytes (Ok l) e = (few_items l, e)
-read_is bytes (Err f) e = e
-
-is_read : (l : Result EditList ListFault) → is_some (read_of l) ≡ is_ok l
-unfolding read_of
-is_read (Ok l) = refl
-is_read (Err f) = refl
-
-pub edits_refused : (ns : List Node) (m : Model) (s o : ℕ) (bytes : List ℕ) (l : Result EditList ListFault) (listed : Bool) (f : EngineFault) → ListRead bytes l → listed ≡ is_ok l → first (edit_refusals m s o listed) ≡ Some f → Edits ns m s o bytes (Refused f) m
-edits_refused ns m s o bytes l listed f read is e =
-    let told : first (edit_refusals m s o (is_some (read_of l))) ≡ Some f = ap (λ (b : Bool). first (edit_refusals m s o b)) (is_read l ∙ sym is) ∙ e in
-    record {
-      items = read_of l;
-      are = read_is bytes l read;
-      answer = subst (λ (x : Option EngineFault). EditsUnless x ns m o (read_of l) (Refused f) m) (sym told) (refl, refl);
-    }
-
-pub edits_done : (ns : List Node) (m : Model) (s o : ℕ) (bytes : List ℕ) (l : EditList) (listed : Bool) (way : ErrorOption) (a : Answer) (m' : Model) → ListRead {F = ListFault} bytes (Ok l) → listed ≡ true → first (edit_refusals m s o listed) ≡ None → option_at o ≡ Some way → EditsItems ns m (Some way) (Some (items l)) a m' → Edits ns m s o bytes a m'
-edits_done ns m s o bytes l listed way a m' read is e ow did =
-    let told : first (edit_refusals m s o true) ≡ None = ap (λ (b : Bool). first (edit_refusals m s o b)) (sym is) ∙ e in
+pub edits_refused : (ns : List Node) (m : Model) (s o : ℕ) (bytes : List ℕ) (l : EditList) (f : EngineFault) → ListRead {F = ListFault} bytes (Ok l) → first (edit_refusals m s o true) ≡ Some f → Edits ns m s o bytes (Refused f) m
+edits_refused ns m s o bytes l f read e =
     record {
       items = Some (items l);
       are = (few_items l, read);
-      answer = subst (λ (x : Option EngineFault). EditsUnless x ns m o (Some (items l)) a m') (sym told) (subst (λ (x : Option ErrorOption). EditsItems ns m x (Some (items l)) a m') (sym ow) did);
+      answer = subst (λ (x : Option EngineFault). EditsUnless x ns m o (Some (items l)) (Refused f) m) (sym e) (refl, refl);
+    }
+
+pub edits_done : (ns : List Node) (m : Model) (s o : ℕ) (bytes : List ℕ) (l : EditList) (way : ErrorOption) (a : Answer) (m' : Model) → ListRead {F = ListFault} bytes (Ok l) → first (edit_refusals m s o true) ≡ None → option_at o ≡ Some way → EditsItems ns m (Some way) (Some (items l)) a m' → Edits ns m s o bytes a m'
+edits_done ns m s o bytes l way a m' read e ow did =
+    record {
+      items = Some (items l);
+      are = (few_items l, read);
+      answer = subst (λ (x : Option EngineFault). EditsUnless x ns m o (Some (items l)) a m') (sym e) (subst (λ (x : Option ErrorOption). EditsItems ns m x (Some (items l)) a m') (sym ow) did);
     }
 
 -- an edit that nothing refuses is of an engine that is on
-fourth : (a b c d : Bool) (x y z w : EngineFault) (rest : Option EngineFault) → cond a (Some x) (cond b (Some y) (cond c (Some z) (cond d (Some w) rest))) ≡ None → (a ≡ false) × (d ≡ false)
-fourth true b c d x y z w rest e = absurd (let q : ◌≡◌ {A = ℕ} 0 1 = cc in omega arith)
-fourth false true c d x y z w rest e = absurd (let q : ◌≡◌ {A = ℕ} 0 1 = cc in omega arith)
-fourth false false true d x y z w rest e = absurd (let q : ◌≡◌ {A = ℕ} 0 1 = cc in omega arith)
-fourth false false false true x y z w rest e = absurd (let q : ◌≡◌ {A = ℕ} 0 1 = cc in omega arith)
-fourth false false false false x y z w rest e = (refl, refl)
-
-pub edit_on : (m : Model) (s o : ℕ) (listed : Bool) → first (edit_refusals m s o listed) ≡ None → (listed ≡ true) × (m.on ≡ true)
-edit_on m s o listed e =
-    let p = fourth (not listed) (not (is_session s)) (not (is_some (option_at o))) (not m.on) (Plain no_list) (Plain SessionNumber) (Plain OptionNumber) (Plain EngineOff) _ e in
-    (not_false listed p.0, not_false m.on p.1)
+pub edit_on : (m : Model) (s o : ℕ) → first (edit_refusals m s o true) ≡ None → m.on ≡ true
+edit_on m s o e = grind arith
 
 -- an engine that is on has a lawful schema
 pub items_of : (p q : Bool) (schema : Result Schema SchemaFault) (o : ErrorOption) (is : List Item) (m : Model) (a : Answer) (m' : Model) → (p && (q && is_ok schema)) ≡ true → ItemsBy schema o is m a m' → EditsItems (nodes_of schema) m (Some o) (Some is) a m'

@@ -1,12 +1,14 @@
 -- Numbers that are checked, and events of the trial.
-use Rattle.std.specs.Prelude.{◌≡◌, ℕ, ◌≤◌, Bool, true, false, ◌&&◌, List, is_ok, Some, None, Ok, Err, MatchBool, Option, Result}
-use Rattle.session.specs.Numbers.{datastore_number, is_datastore, is_session, number_of}
+use Rattle.std.specs.Prelude.{◌≡◌, ℕ, ◌≤◌, Bool, true, ◌&&◌, List, [], ◌∷◌, is_ok, Some, None, Ok, Err, MatchBool, Option, Result}
+use Rattle.session.specs.Locks.{locked_elsewhere}
+use Rattle.session.specs.Numbers.{datastore_number, number_of}
 use Rattle.session.specs.Trials.{Happening}
 use Rattle.session.specs.declared.numbers.Datastore.{Datastore}
 use Rattle.session.specs.declared.session.Session.{Session}
 use Rattle.calls.specs.declared.faults.EngineFault.{EngineFault}
 use Rattle.calls.specs.declared.faults.EngineFault.TheVariants.{Plain, Store}
-use Rattle.calls.specs.declared.faults.Refusal.TheVariants.{SessionNumber, DatastoreNumber, OptionNumber, EngineOff}
+use Rattle.calls.specs.declared.faults.Refusal.{Refusal}
+use Rattle.calls.specs.declared.faults.Refusal.TheVariants.{EngineOff, LockedElsewhere}
 use Rattle.calls.specs.declared.call.Answer.{Answer}
 use Rattle.calls.specs.declared.call.Answer.TheVariants.{Refused}
 use Rattle.schema.specs.Nodes.{nodes}
@@ -18,32 +20,29 @@ use Rattle.model.specs.Model.{Model, fresh, with_on}
 use Rattle.model.specs.Acts.{Stores, FormatsValid, RecoversTo, Refuses}
 use Rattle.store.specs.Calls.{small}
 use Rattle.store.specs.declared.faults.StoreFault.TheVariants.{TooSmall}
-use Rattle.model.specs.Refusals.{first, or_invalid, of_kind, option_at, edit_refusals, get_refusals, commit_refusals}
+use Rattle.model.specs.Refusals.{first, or_invalid, unless_open, of_kind, option_at, edit_refusals, get_refusals, commit_refusals}
 use Rattle.calls.specs.declared.call.CommitKind.{CommitKind}
 use Rattle.config.specs.declared.entry.Entry.{Entry}
 use Rattle.device.specs.declared.Block.{Block}
+use Rattle.device.specs.declared.Device as device
 use Rattle.device.specs.declared.DeviceFault.{DeviceFault}
 use Rattle.validate.specs.declared.broken.Broken.{Broken}
+use Rattle.validate.specs.declared.validator.Validator as validator
 use Rattle.model.specs.Steps.{after_event, EditsItems}
 use Rattle.engine.specs.declared.engine.Engine.{Engine}
 use Rattle.engine.specs.Seen.{device_of, schema_of, seen, validator_of}
 
--- no fault passes, and a fault is answered
-abbrev pub passes : Option EngineFault → Result Unit EngineFault
-passes None = Ok tt
-passes (Some f) = Err f
+-- what a check refuses, if anything
+abbrev pub refusal_of : Result Unit Refusal → Option EngineFault
+refusal_of (Ok done) = None
+refusal_of (Err r) = Some (Plain r)
 
-abbrev pub SessionRead : ℕ → Result Session EngineFault → Type 0
-SessionRead n (Ok s) = (number_of s ≡ n) × (is_session n ≡ true)
-SessionRead n (Err f) = (f ≡ Plain SessionNumber) × (is_session n ≡ false)
+-- why a session may make no call, or none that changes the candidate
+abbrev pub open_refusal : Model → ℕ → Option EngineFault
+open_refusal m s = first (unless_open m s [])
 
-abbrev pub DatastoreRead : ℕ → Result Datastore EngineFault → Type 0
-DatastoreRead n (Ok d) = (datastore_number d ≡ n) × (is_datastore n ≡ true)
-DatastoreRead n (Err f) = (f ≡ Plain DatastoreNumber) × (is_datastore n ≡ false)
-
-abbrev pub OptionRead : ℕ → Result ErrorOption EngineFault → Type 0
-OptionRead n (Ok o) = option_at n ≡ Some o
-OptionRead n (Err f) = (f ≡ Plain OptionNumber) × (option_at n ≡ None)
+abbrev pub candidate_refusal : Model → ℕ → Option EngineFault
+candidate_refusal m s = first (unless_open m s ((locked_elsewhere m.held s 2, LockedElsewhere) ∷ []))
 
 -- what items do to the candidate, unless the schema is unlawful
 abbrev pub ItemsBy : Result Schema SchemaFault → ErrorOption → List Item → Model → Answer → Model → Type 0
@@ -99,6 +98,17 @@ module _ {D V : Type 0} (blocks : D → List Block) (powered : D → Bool) (rais
     pub restarts : is_ok (schema_of e) ≡ true → MatchBool (small (blocks (device_of e))) (Refuses (Store TooSmall) (seen powered e) (device_of e) a (seen powered e') (device_of e')) (RecoversTo blocks powered raises reads writes (nodes s) (seen powered e) (device_of e) a (seen powered e') (device_of e'))
     pub validator : validator_of e' ≡ validator_of e
     pub schema : schema_of e' ≡ schema_of e
+
+-- the same by all that a device and a validator mean
+module _ {D V : Type 0} (d : device.Ghosts D) where
+  abbrev pub StoresOn : Engine D V → Answer → Engine D V → Type 0
+  StoresOn e a e' = StoresTo d.blocks d.powered d.raises d.reads d.writes e a e'
+
+  abbrev pub FirstWrittenOn : validator.Ghosts V → List Entry → Engine D V → Answer → Engine D V → Type 0
+  FirstWrittenOn v es e a e' = FirstWritten d.blocks d.powered d.raises d.reads d.writes v.verdict es e a e'
+
+  abbrev pub RecoveredOn : Schema → Engine D V → Answer → Engine D V → Type 0
+  RecoveredOn s e a e' = RecoveredWith d.blocks d.powered d.raises d.reads d.writes s e a e'
 
 -- one configuration is in all places, and the engine's flag is set; nothing else changes
 module _ {D V : Type 0} (powered : D → Bool) where

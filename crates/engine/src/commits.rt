@@ -1,7 +1,8 @@
 // Commits of both kinds.
+ghost use Rattle.calls.specs.Answers.{answered};
 ghost use Rattle.calls.specs.declared.call.Call.{Call};
-ghost use Rattle.engine.specs.Checks.{CommitChecked, StoresTo};
-ghost use Rattle.engine.specs.Performing.{Performs, answered};
+ghost use Rattle.engine.specs.Checks.{CommitChecked, StoresOn};
+ghost use Rattle.engine.specs.Performing.{PerformsOn};
 ghost use Rattle.engine.specs.Seen.{seen, validator_of};
 ghost use Rattle.model.specs.Refusals.{of_kind};
 ghost use Rattle.session.specs.Locks.{locked_elsewhere};
@@ -9,7 +10,6 @@ ghost use Rattle.session.specs.Numbers.{number_of};
 ghost use Rattle.std.specs.Prelude.{◌≡◌, ◌||◌};
 
 use crate::engine::Engine;
-use crate::refusals::{refused, session_of};
 use calls::{Call, CommitKind, EngineFault, Refusal};
 use device::Device;
 use session::{Datastore, Event, Session, Start};
@@ -21,7 +21,7 @@ fn is_of_kind(kind: CommitKind, timeout: u32, persist: u32) -> bool
 {
     match kind {
         CommitKind::Plain => timeout == 0 && persist == 0,
-        CommitKind::Confirmed => 1 <= timeout && timeout <= 86_400,
+        CommitKind::Confirmed => (1..=86_400).contains(&timeout),
     }
 }
 
@@ -37,7 +37,8 @@ impl<D: Device, V: Validator> Engine<D, V> {
                 .is_locked_elsewhere(session, Datastore::Candidate)
     }
 
-    // All checks of a commit but the store's: the session that commits, or why it may not.
+    // All checks of a commit but the store's: the session that commits, or why it may not. Its numbers stay parameters, as the
+    // caller gives them in Call::Commit: in a struct of their own each would be named twice more.
     fn may_commit(
         &self,
         session: u32,
@@ -48,39 +49,31 @@ impl<D: Device, V: Validator> Engine<D, V> {
     ) -> Result<Session, EngineFault>
         ensures { CommitChecked (V.Validator.verdict (validator_of self.now)) (seen D.Device.powered self.now) session kind timeout persist id result }
     {
-        let by = session_of(session)?;
+        let by = Session::try_from(session)?;
         if !is_of_kind(kind, timeout, persist) {
-            return refused(Refusal::CommitNumbers);
+            return Err(Refusal::CommitNumbers.into());
         }
-        if !self.is_on() {
-            return refused(Refusal::EngineOff);
-        }
-        if !self.sessions.is_open(by) {
-            return refused(Refusal::SessionNotOpen);
-        }
+        self.check_open(by)?;
         if self.is_locked_elsewhere(by) {
-            return refused(Refusal::LockedElsewhere);
+            return Err(Refusal::LockedElsewhere.into());
         }
         if self.trial.is_bound_elsewhere(by) {
-            return refused(Refusal::TrialBound);
+            return Err(Refusal::TrialBound.into());
         }
         if self.trial.persist_differs(id) {
-            return refused(Refusal::PersistDiffers);
+            return Err(Refusal::PersistDiffers.into());
         }
-        match self.validator.check(&self.candidate) {
-            Ok(()) => Ok(by),
-            Err(broken) => Err(EngineFault::Invalid(broken)),
-        }
+        self.validator.check(&self.candidate)?;
+        Ok(by)
     }
 
     // Running becomes the candidate and is stored, and a trial ends confirmed.
     fn store(&mut self) -> Result<(), EngineFault>
-        ensures { StoresTo D.Device.blocks D.Device.powered D.Device.raises D.Device.reads D.Device.writes self.old (answered result) self.new }
+        ensures { StoresOn D.Device self.old (answered result) self.new }
     {
         store::replace(&mut self.device, &self.standing, &self.candidate)?;
-        let candidate = self.candidate;
-        self.standing = candidate;
-        self.running = candidate;
+        self.standing = self.candidate;
+        self.running = self.candidate;
         self.happen(Event::Confirmed);
         Ok(())
     }
@@ -94,14 +87,13 @@ impl<D: Device, V: Validator> Engine<D, V> {
         persist: u32,
         id: u32,
     ) -> Result<(), EngineFault>
-        ensures { Performs D.Device.blocks D.Device.powered D.Device.raises D.Device.reads D.Device.writes V.Validator.verdict self.old (Call.Commit session kind timeout persist id) (answered result) self.new }
+        ensures { PerformsOn D.Device V.Validator self.old (Call.Commit session kind timeout persist id) (answered result) self.new }
     {
         let owner = self.may_commit(session, kind, timeout, persist, id)?;
         match kind {
             CommitKind::Plain => self.store(),
             CommitKind::Confirmed => {
-                let candidate = self.candidate;
-                self.running = candidate;
+                self.running = self.candidate;
                 self.happen(Event::Started(Start {
                     owner,
                     timeout,

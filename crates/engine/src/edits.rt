@@ -1,10 +1,9 @@
 // The items of an edit on the candidate.
+ghost use Rattle.calls.specs.Answers.{answered};
 ghost use Rattle.edit.specs.Lists.{items};
 ghost use Rattle.engine.specs.Checks.{ItemsEdited};
-ghost use Rattle.engine.specs.Performing.{answered};
 
 use crate::engine::Engine;
-use crate::refusals::refused;
 use calls::{EngineFault, Refusal};
 use device::Device;
 use edit::{EditList, ErrorOption};
@@ -19,12 +18,8 @@ impl<D: Device, V: Validator> Engine<D, V> {
     ) -> Result<(), EngineFault>
         ensures { ItemsEdited D.Device.powered way (items list.now) self.old (answered result) self.new }
     {
-        let Ok(schema) = self.schema else {
-            return refused(Refusal::EngineOff);
-        };
-        match edit::edit(&schema, &mut self.candidate, list, way) {
-            Ok(()) => Ok(()),
-            Err(fault) => Err(EngineFault::Item(fault)),
-        }
+        let schema = self.schema.map_err(|_| Refusal::EngineOff)?;
+        edit::edit(&schema, &mut self.candidate, list, way)?;
+        Ok(())
     }
 }

@@ -4,12 +4,12 @@
 // Nothing here allocates.
 #![tactic(auto)]
 
+// Numbers are plain, as the caller gives them: each call reads them in the order of its refusals.
 mod commits;
 mod datastores;
 mod edits;
 mod engine;
 mod life;
-mod refusals;
 mod seats;
 
 pub use engine::Engine;

@@ -1,16 +1,16 @@
 // Sessions, locks and the trial.
+ghost use Rattle.calls.specs.Answers.{answered};
 ghost use Rattle.calls.specs.declared.call.Call.{Call};
-ghost use Rattle.engine.specs.Checks.{Happened};
-ghost use Rattle.engine.specs.Performing.{Performs, answered};
+ghost use Rattle.engine.specs.Checks.{Happened, open_refusal, refusal_of};
+ghost use Rattle.engine.specs.Performing.{PerformsOn};
 ghost use Rattle.engine.specs.Seen.{seen};
 ghost use Rattle.model.specs.Model.{modified};
 ghost use Rattle.session.specs.Meaning.{event_of};
-ghost use Rattle.session.specs.Numbers.{number_of};
+ghost use Rattle.session.specs.Numbers.{datastore_number, number_of};
 ghost use Rattle.session.specs.Trials.{is_pending, owned_elsewhere, persist_differs};
 ghost use Rattle.std.specs.Prelude.{◌≡◌, ◌&&◌, ◌==◌};
 
 use crate::engine::Engine;
-use crate::refusals::{datastore_of, refused, session_of};
 use calls::{Call, EngineFault, Refusal};
 use device::Device;
 use session::{Datastore, Event, Outcome, Session};
@@ -24,6 +24,19 @@ impl<D: Device, V: Validator> Engine<D, V> {
         self.on && self.device.is_on() && self.schema.is_ok()
     }
 
+    // The first refusal of every call to a session: the engine is off, or the session not open.
+    pub(crate) fn check_open(&self, by: Session) -> Result<(), Refusal>
+        ensures { refusal_of result ≡ open_refusal (seen D.Device.powered self.now) (number_of by) }
+    {
+        if !self.is_on() {
+            return Err(Refusal::EngineOff);
+        }
+        if !self.sessions.is_open(by) {
+            return Err(Refusal::SessionNotOpen);
+        }
+        Ok(())
+    }
+
     // The candidate differs from running.
     fn is_modified(&self) -> bool
         ensures { result ≡ modified (seen D.Device.powered self.now) }
@@ -32,17 +45,17 @@ impl<D: Device, V: Validator> Engine<D, V> {
     }
 
     // The candidate is to be locked, and it is modified.
-    fn hinders_candidate(&self, datastore: u32) -> bool
-        ensures { result ≡ (datastore == 2 && modified (seen D.Device.powered self.now)) }
+    fn hinders_candidate(&self, datastore: Datastore) -> bool
+        ensures { result ≡ (datastore_number datastore == 2 && modified (seen D.Device.powered self.now)) }
     {
-        datastore == 2 && self.is_modified()
+        datastore == Datastore::Candidate && self.is_modified()
     }
 
     // Running is to be locked, and there is a trial that another session or nobody owns.
-    fn hinders_running(&self, datastore: u32, session: Session) -> bool
-        ensures { result ≡ (datastore == 1 && owned_elsewhere (seen D.Device.powered self.now).trial (number_of session)) }
+    fn hinders_running(&self, datastore: Datastore, session: Session) -> bool
+        ensures { result ≡ (datastore_number datastore == 1 && owned_elsewhere (seen D.Device.powered self.now).trial (number_of session)) }
     {
-        datastore == 1 && self.trial.is_owned_elsewhere(session)
+        datastore == Datastore::Running && self.trial.is_owned_elsewhere(session)
     }
 
     // There is a trial, and the persist number given is not its own.
@@ -56,24 +69,20 @@ impl<D: Device, V: Validator> Engine<D, V> {
     pub(crate) fn happen(&mut self, event: Event)
         ensures { Happened D.Device.powered (event_of event) self.old self.new }
     {
-        match self.trial.on(event) {
-            Outcome::Reverted => {
-                let standing = self.standing;
-                self.running = standing;
-            }
-            Outcome::Nothing | Outcome::Confirmed => {}
+        if self.trial.on(event) == Outcome::Reverted {
+            self.running = self.standing;
         }
     }
 
     pub(crate) fn open(&mut self, session: u32) -> Result<(), EngineFault>
-        ensures { Performs D.Device.blocks D.Device.powered D.Device.raises D.Device.reads D.Device.writes V.Validator.verdict self.old (Call.Open session) (answered result) self.new }
+        ensures { PerformsOn D.Device V.Validator self.old (Call.Open session) (answered result) self.new }
     {
-        let by = session_of(session)?;
+        let by = Session::try_from(session)?;
         if !self.is_on() {
-            return refused(Refusal::EngineOff);
+            return Err(Refusal::EngineOff.into());
         }
         if self.sessions.is_open(by) {
-            return refused(Refusal::SessionOpen);
+            return Err(Refusal::SessionOpen.into());
         }
         self.sessions.open(by);
         Ok(())
@@ -81,39 +90,29 @@ impl<D: Device, V: Validator> Engine<D, V> {
 
     // Ends a session. Its locks are released; a trial that it owns reverts, or goes on without an owner if it has a persist number.
     pub(crate) fn close(&mut self, session: u32) -> Result<(), EngineFault>
-        ensures { Performs D.Device.blocks D.Device.powered D.Device.raises D.Device.reads D.Device.writes V.Validator.verdict self.old (Call.Close session) (answered result) self.new }
+        ensures { PerformsOn D.Device V.Validator self.old (Call.Close session) (answered result) self.new }
     {
-        let by = session_of(session)?;
-        if !self.is_on() {
-            return refused(Refusal::EngineOff);
-        }
-        if !self.sessions.is_open(by) {
-            return refused(Refusal::SessionNotOpen);
-        }
+        let by = Session::try_from(session)?;
+        self.check_open(by)?;
         self.happen(Event::Closed(by));
         self.sessions.close(by);
         Ok(())
     }
 
     pub(crate) fn lock(&mut self, session: u32, datastore: u32) -> Result<(), EngineFault>
-        ensures { Performs D.Device.blocks D.Device.powered D.Device.raises D.Device.reads D.Device.writes V.Validator.verdict self.old (Call.Lock session datastore) (answered result) self.new }
+        ensures { PerformsOn D.Device V.Validator self.old (Call.Lock session datastore) (answered result) self.new }
     {
-        let by = session_of(session)?;
-        let of = datastore_of(datastore)?;
-        if !self.is_on() {
-            return refused(Refusal::EngineOff);
-        }
-        if !self.sessions.is_open(by) {
-            return refused(Refusal::SessionNotOpen);
-        }
+        let by = Session::try_from(session)?;
+        let of = Datastore::try_from(datastore)?;
+        self.check_open(by)?;
         if self.sessions.is_locked(of) {
-            return refused(Refusal::AlreadyLocked);
+            return Err(Refusal::AlreadyLocked.into());
         }
-        if self.hinders_candidate(datastore) {
-            return refused(Refusal::CandidateModified);
+        if self.hinders_candidate(of) {
+            return Err(Refusal::CandidateModified.into());
         }
-        if self.hinders_running(datastore, by) {
-            return refused(Refusal::TrialElsewhere);
+        if self.hinders_running(of, by) {
+            return Err(Refusal::TrialElsewhere.into());
         }
         self.sessions.lock(by, of);
         Ok(())
@@ -121,18 +120,13 @@ impl<D: Device, V: Validator> Engine<D, V> {
 
     // Releases a lock. A released candidate keeps its contents.
     pub(crate) fn unlock(&mut self, session: u32, datastore: u32) -> Result<(), EngineFault>
-        ensures { Performs D.Device.blocks D.Device.powered D.Device.raises D.Device.reads D.Device.writes V.Validator.verdict self.old (Call.Unlock session datastore) (answered result) self.new }
+        ensures { PerformsOn D.Device V.Validator self.old (Call.Unlock session datastore) (answered result) self.new }
     {
-        let by = session_of(session)?;
-        let of = datastore_of(datastore)?;
-        if !self.is_on() {
-            return refused(Refusal::EngineOff);
-        }
-        if !self.sessions.is_open(by) {
-            return refused(Refusal::SessionNotOpen);
-        }
+        let by = Session::try_from(session)?;
+        let of = Datastore::try_from(datastore)?;
+        self.check_open(by)?;
         if !self.sessions.holds(by, of) {
-            return refused(Refusal::LockNotHeld);
+            return Err(Refusal::LockNotHeld.into());
         }
         self.sessions.unlock(by, of);
         Ok(())
@@ -140,26 +134,21 @@ impl<D: Device, V: Validator> Engine<D, V> {
 
     // Ends a trial: running becomes the standing configuration, and the candidate stays.
     pub(crate) fn cancel(&mut self, session: u32, id: u32) -> Result<(), EngineFault>
-        ensures { Performs D.Device.blocks D.Device.powered D.Device.raises D.Device.reads D.Device.writes V.Validator.verdict self.old (Call.Cancel session id) (answered result) self.new }
+        ensures { PerformsOn D.Device V.Validator self.old (Call.Cancel session id) (answered result) self.new }
     {
-        let by = session_of(session)?;
-        if !self.is_on() {
-            return refused(Refusal::EngineOff);
-        }
-        if !self.sessions.is_open(by) {
-            return refused(Refusal::SessionNotOpen);
-        }
+        let by = Session::try_from(session)?;
+        self.check_open(by)?;
         if self.sessions.is_locked_elsewhere(by, Datastore::Running) {
-            return refused(Refusal::LockedElsewhere);
+            return Err(Refusal::LockedElsewhere.into());
         }
         if self.trial.is_bound_elsewhere(by) {
-            return refused(Refusal::TrialBound);
+            return Err(Refusal::TrialBound.into());
         }
         if self.differs_from_trial(id) {
-            return refused(Refusal::PersistDiffers);
+            return Err(Refusal::PersistDiffers.into());
         }
         if !self.trial.is_pending() {
-            return refused(Refusal::NoTrial);
+            return Err(Refusal::NoTrial.into());
         }
         self.happen(Event::Cancelled);
         Ok(())
@@ -167,13 +156,13 @@ impl<D: Device, V: Validator> Engine<D, V> {
 
     // So many seconds have passed. A trial without a second left reverts.
     pub(crate) fn elapse(&mut self, seconds: u32) -> Result<(), EngineFault>
-        ensures { Performs D.Device.blocks D.Device.powered D.Device.raises D.Device.reads D.Device.writes V.Validator.verdict self.old (Call.Elapse seconds) (answered result) self.new }
+        ensures { PerformsOn D.Device V.Validator self.old (Call.Elapse seconds) (answered result) self.new }
     {
         if seconds > 1_000_000 {
-            return refused(Refusal::TooManySeconds);
+            return Err(Refusal::TooManySeconds.into());
         }
         if !self.is_on() {
-            return refused(Refusal::EngineOff);
+            return Err(Refusal::EngineOff.into());
         }
         self.happen(Event::Elapsed(seconds));
         Ok(())

@@ -22,6 +22,7 @@ pub enum Layer {
 }
 
 impl Layer {
+    // A method and no From, which is no plainer: the conversion is the cast alone.
     pub fn number(self) -> u32
         ensures { result ≡ layer_number self }
     {
@@ -94,7 +95,7 @@ fn layer_number(number: u32) -> u32
     layer_of(number).map_or(0, |layer| layer.number())
 }
 
-// How a refusal is told. A field without use is 0.
+// How a refusal is told. A field without use is 0. All are plain numbers, as the rules tell them.
 #[derive(Clone, Copy, PartialEq, Eq, Debug)]
 pub struct Report {
     pub number: u32,
@@ -108,7 +109,7 @@ pub struct Report {
 }
 
 impl Report {
-    // A refusal by this number, with its layer and nothing else to tell.
+    // A refusal by this number, with its layer and nothing else to tell. The number is plain: each fault's type knows its own.
     pub fn plain(number: u32) -> Self
         ensures { result ≡ plain number }
     {

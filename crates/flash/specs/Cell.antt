@@ -4,6 +4,7 @@ use Rattle.device.specs.declared.Block.{Block}
 use Rattle.device.specs.declared.Block.TheVariants.{Good, Damaged}
 use Rattle.supply.specs.Cells.{cell_of, blocks_by}
 use Rattle.supply.specs.Writing.{Tears}
+use Rattle.cells.specs.Layout.{Layout}
 
 -- the 33 bytes of block i
 abbrev pub cell : List ℕ → ℕ → List ℕ
@@ -61,6 +62,17 @@ cell_after k c payload = all_done (take k (steps payload)) c
 -- all bytes with the first k byte writes to block i done, and every other byte unchanged
 abbrev pub bytes_after : ℕ → List ℕ → ℕ → List ℕ → List ℕ
 bytes_after k bytes i payload = take (33 * i) bytes ++ cell_after k (drop (33 * i) bytes) payload
+
+-- this layout of cells
+abbrev pub flash_layout : Layout
+flash_layout =
+    record {
+      size = 33;
+      content = content;
+      takes = λ payload. (length payload ≡ 32) × ((j : ℕ) → slice_index payload j < 256);
+      steps = 66;
+      after = λ k part payload. cell_after k part payload;
+    }
 
 -- the 66 byte writes of a cell, from a good one and from a damaged one alike
 abbrev pub EveryCut : Type 0

@@ -8,9 +8,14 @@ use Rattle.std.proofs.ByRecursion.{All-append, All-take}
 use Rattle.std.proofs.lemmas.Bool.{eq-eqb, ne_eqb, cond-true, cond-false, cases_eq}
 use Rattle.std.specs.List.{AllByRecursion}
 use Rattle.device.specs.declared.Block.TheVariants.{Good, Damaged}
-use Rattle.supply.proofs.Cells.{blocks_spliced, cell_here, outside, length_spliced}
-use Rattle.flash.specs.Cell.{cell, good, content, blocks_of, ByteWrite, erasing, programming, one_done, all_done, erases_from, programs_from, steps, cell_after, bytes_after, EveryCut, Bytewise, InOrder}
-use Rattle.flash.specs.Running.{done_append}
+use Rattle.supply.proofs.Cells.{cell_here, outside, length_spliced}
+use Rattle.cells.specs.Layout.{Confined}
+use Rattle.cells.specs.Rule as rule
+use Rattle.flash.specs.Cell.{cell, good, content, blocks_of, ByteWrite, erasing, programming, one_done, all_done, erases_from, programs_from, steps, cell_after, bytes_after, flash_layout, EveryCut, Bytewise, InOrder}
+
+pub done_append : (ws vs : List ByteWrite) (c : List ℕ) → all_done (ws ++ vs) c ≡ all_done vs (all_done ws c)
+done_append [] vs c = refl
+done_append (w ∷ ws) vs c = done_append ws vs (one_done w c)
 
 -- the byte that a byte write is to
 abbrev place : ByteWrite → ℕ
@@ -34,7 +39,7 @@ pub elsewhere : (ws : List ByteWrite) (c : List ℕ) (j d : ℕ) → AllByRecurs
 elsewhere [] c j d n = refl
 elsewhere (w ∷ ws) c j d n = elsewhere ws (one_done w c) j d n.1 ∙ one_elsewhere w c j d n.0
 
-erases_off : (at n j : ℕ) → (j < at) ⊎ (at + n ≤ j) → AllByRecursion (λ w. j ≢ place w) (erases_from at n)
+pub erases_off : (at n j : ℕ) → (j < at) ⊎ (at + n ≤ j) → AllByRecursion (λ w. j ≢ place w) (erases_from at n)
 erases_off at zero j h = tt
 erases_off at (suc n) j (inl h) = ((λ e. omega arith), erases_off (at + 1) n j (inl (omega arith)))
 erases_off at (suc n) j (inr h) = ((λ e. omega arith), erases_off (at + 1) n j (inr (omega arith)))
@@ -45,7 +50,7 @@ programs_off at (b ∷ bs) j (inl h) = ((λ e. omega arith), programs_off (at + 
 programs_off at (b ∷ bs) j (inr h) = ((λ e. omega arith), programs_off (at + 1) bs j (inr (omega arith)))
 
 -- consecutive bytes are erased
-erased_at : (at n : ℕ) (c : List ℕ) (j d : ℕ) → at ≤ j → j < at + n → j < length c → slice_index_or (all_done (erases_from at n) c) j d ≡ 255
+pub erased_at : (at n : ℕ) (c : List ℕ) (j d : ℕ) → at ≤ j → j < at + n → j < length c → slice_index_or (all_done (erases_from at n) c) j d ≡ 255
 erased_at at zero c j d low high l = absurd (omega arith)
 erased_at at (suc n) c j d low high l =
     ⊎_elim
@@ -87,7 +92,7 @@ length_erases : (at n : ℕ) → length (erases_from at n) ≡ n
 length_erases at zero = refl
 length_erases at (suc n) = ap suc (length_erases (at + 1) n)
 
-length_programs : (at : ℕ) (bs : List ℕ) → length (programs_from at bs) ≡ length bs
+pub length_programs : (at : ℕ) (bs : List ℕ) → length (programs_from at bs) ≡ length bs
 length_programs at [] = refl
 length_programs at (b ∷ bs) = ap suc (length_programs (at + 1) bs)
 
@@ -203,29 +208,31 @@ steps_in payload size = (
       (All-append (λ w. place w < 33) (programs_from 0 payload) (programming 32 0 ∷ []) (programs_in 0 payload 33 (omega arith)) (omega arith, tt)),
 )
 
+pub confined : (k : ℕ) (part payload : List ℕ) → length payload ≡ 32 → Confined flash_layout k part payload
+confined k part payload size =
+    record {
+      long = length_done (take k (steps payload)) part;
+      rest = λ j d past. elsewhere (take k (steps payload)) part j d (All-take (λ w. j ≢ place w) k (steps payload) (inside_cell payload size j past));
+      front = take_done 33 (take k (steps payload)) part (All-take (λ w. place w < 33) k (steps payload) (steps_in payload size));
+    }
+
 module _ (k : ℕ) (bytes : List ℕ) (i : ℕ) (payload : List ℕ) (size : length payload ≡ 32) (room : 33 * i + 33 ≤ length bytes) where
   abbrev part : List ℕ
   part = cell_after k (drop (33 * i) bytes) payload
 
-  long : length part ≡ length (drop (33 * i) bytes)
-  long = length_done (take k (steps payload)) (drop (33 * i) bytes)
-
-  tail : (m d : ℕ) → 33 ≤ m → slice_index_or part m d ≡ slice_index_or (drop (33 * i) bytes) m d
-  tail m d h = elsewhere (take k (steps payload)) (drop (33 * i) bytes) m d (All-take (λ w. m ≢ place w) k (steps payload) (inside_cell payload size m h))
-
-  front : take 33 part ≡ cell_after k (cell bytes i) payload
-  front = take_done 33 (take k (steps payload)) (drop (33 * i) bytes) (All-take (λ w. place w < 33) k (steps payload) (steps_in payload size))
+  cell_alone : Confined flash_layout k (drop (33 * i) bytes) payload
+  cell_alone = confined k (drop (33 * i) bytes) payload size
 
   -- a write changes its block and no other
   pub blocks_after : blocks_of (bytes_after k bytes i payload) ≡ slice_set (blocks_of bytes) i (content (cell_after k (cell bytes i) payload))
-  blocks_after = blocks_spliced 33 bytes i part room long tail content (omega arith) ∙ ap (λ (c : List ℕ). set (blocks_of bytes) i (content c)) front
+  blocks_after = rule.blocks_after flash_layout bytes i payload k room (omega arith) cell_alone
 
   pub bytewise : Bytewise k bytes i payload
   bytewise =
       record {
-        long = length_spliced 33 bytes i part room long tail;
-        inside = cell_here 33 bytes i part room long tail ∙ front;
-        outside = λ n h. outside 33 bytes i part room long tail n 0 h;
+        long = length_spliced 33 bytes i part room cell_alone.long cell_alone.rest;
+        inside = cell_here 33 bytes i part room cell_alone.long cell_alone.rest ∙ cell_alone.front;
+        outside = λ n h. outside 33 bytes i part room cell_alone.long cell_alone.rest n 0 h;
       }
 
 pub in_order : InOrder

@@ -2,22 +2,19 @@
 use Rattle.std.specs.Prelude.{◌≡◌, ℕ, zero, suc, ◌+◌, ◌-◌, ◌<◌, ◌≤◌, Bool, true, false, List, [], ◌∷◌, ◌++◌, length, take, drop, slice_index, refl}
 use Rattle.std.proofs.Common.{sym, ap, subst, ◌∙◌, arith, zero-add, suc-add, length-append}
 use Rattle.std.proofs.lemmas.List.{drop_more, drop_all, take_all, take-append-le}
-use Rattle.supply.specs.Budget.{is_on, left_of, allowed, Spent}
+use Rattle.supply.specs.Budget.{lasts, allowed, Asked}
 use Rattle.supply.specs.declared.Supply.{Supply}
-use Rattle.supply.proofs.Spending.{allowed_le, spent_none, spent_then, spent_ends, allowed_then, allowed_ends, all_done as allowed_all}
-use Rattle.flash.specs.Cell.{ByteWrite, erasing, programming, one_done, all_done, erases_from, programs_from}
+use Rattle.supply.proofs.Spending.{allowed_le, all_done as every, asked_none, asked_then, asked_ends, allowed_then, allowed_ends}
+use Rattle.flash.specs.Cell.{ByteWrite, erasing, programming, all_done, erases_from, programs_from}
+use Rattle.flash.specs.Cells.{done_append}
 use Rattle.flash.specs.Ran.{Ran}
-
-pub done_append : (ws vs : List ByteWrite) (c : List ℕ) → all_done (ws ++ vs) c ≡ all_done vs (all_done ws c)
-done_append [] vs c = refl
-done_append (w ∷ ws) vs c = done_append ws vs (one_done w c)
 
 pub take_over : (ws vs : List ByteWrite) (k : ℕ) → take (length ws + k) (ws ++ vs) ≡ ws ++ take k vs
 take_over [] vs k = ap (λ (n : ℕ). take n vs) (zero-add k)
 take_over (w ∷ ws) vs k = ap (λ (n : ℕ). take n (w ∷ (ws ++ vs))) (suc-add (length ws) k) ∙ ap (λ (x : List ByteWrite). w ∷ x) (take_over ws vs k)
 
-pub ran_none : (part : List ℕ) (s : Supply) → is_on s ≡ true → Ran [] part s true part s
-ran_none part s on = record { bytes = sym (ap (λ (x : List ByteWrite). all_done x part) (none (allowed (left_of s) 0))); spent = spent_none s on }
+pub ran_none : (part : List ℕ) (s : Supply) → Ran [] part s true part s
+ran_none part s = record { bytes = sym (ap (λ (x : List ByteWrite). all_done x part) (none (allowed (lasts s) 0))); asked = asked_none s }
   where
     none : (k : ℕ) → take {A = ByteWrite} k [] ≡ []
     none zero = refl
@@ -26,36 +23,29 @@ ran_none part s on = record { bytes = sym (ap (λ (x : List ByteWrite). all_done
 -- some byte writes are done, and then others are asked
 pub ran_then : {ws vs : List ByteWrite} {a b c : List ℕ} {s p q : Supply} {r : Bool} → Ran ws a s true b p → Ran vs b p r c q → Ran (ws ++ vs) a s r c q
 ran_then {ws} {vs} {a} {b} {c} {s} {p} {q} {r} e f =
-    let whole : allowed (left_of s) (length ws) ≡ length ws = every e.spent in
-    let here : b ≡ all_done ws a = e.bytes ∙ ap (λ (k : ℕ). all_done (take k ws) a) whole ∙ ap (λ (x : List ByteWrite). all_done x a) (take_self ws) in
+    let here : b ≡ all_done ws a = e.bytes ∙ ap (λ (k : ℕ). all_done (take k ws) a) (every e.asked) ∙ ap (λ (x : List ByteWrite). all_done x a) (take_all (length ws) ws (omega arith)) in
     record {
       bytes =
           f.bytes
-          ∙ ap (all_done (take (allowed (left_of p) (length vs)) vs)) here
-          ∙ sym (done_append ws (take (allowed (left_of p) (length vs)) vs) a)
-          ∙ ap (λ (x : List ByteWrite). all_done x a) (sym (take_over ws vs (allowed (left_of p) (length vs))))
-          ∙ ap (λ (k : ℕ). all_done (take k (ws ++ vs)) a) (sym (allowed_then (length vs) e.spent))
-          ∙ ap (λ (k : ℕ). all_done (take (allowed (left_of s) k) (ws ++ vs)) a) (sym (length-append ws vs));
-      spent = subst (λ (k : ℕ). Spent k s r q) (sym (length-append ws vs)) (spent_then e.spent f.spent);
+          ∙ ap (all_done (take (allowed (lasts p) (length vs)) vs)) here
+          ∙ sym (done_append ws (take (allowed (lasts p) (length vs)) vs) a)
+          ∙ ap (λ (x : List ByteWrite). all_done x a) (sym (take_over ws vs (allowed (lasts p) (length vs))))
+          ∙ ap (λ (k : ℕ). all_done (take k (ws ++ vs)) a) (sym (allowed_then (length vs) e.asked))
+          ∙ ap (λ (k : ℕ). all_done (take (allowed (lasts s) k) (ws ++ vs)) a) (sym (length-append ws vs));
+      asked = subst (λ (k : ℕ). Asked k s r q) (sym (length-append ws vs)) (asked_then e.asked f.asked);
     }
-  where
-    every : {n : ℕ} {s p : Supply} → Spent n s true p → allowed (left_of s) n ≡ n
-    every e = allowed_all e
-
-    take_self : (ws : List ByteWrite) → take (length ws) ws ≡ ws
-    take_self ws = take_all (length ws) ws (omega arith)
 
 -- power failed at one of some byte writes, whatever was to follow
 pub ran_ends : {ws : List ByteWrite} (vs : List ByteWrite) {a b : List ℕ} {s p : Supply} → Ran ws a s false b p → Ran (ws ++ vs) a s false b p
 ran_ends {ws} vs {a} {b} {s} {p} e =
-    let k : ℕ = allowed (left_of s) (length ws) in
+    let k : ℕ = allowed (lasts s) (length ws) in
     record {
       bytes =
           e.bytes
-          ∙ ap (λ (x : List ByteWrite). all_done x a) (sym (take-append-le k ws vs (allowed_le (left_of s) (length ws))))
-          ∙ ap (λ (n : ℕ). all_done (take n (ws ++ vs)) a) (sym (allowed_ends (length vs) e.spent))
-          ∙ ap (λ (n : ℕ). all_done (take (allowed (left_of s) n) (ws ++ vs)) a) (sym (length-append ws vs));
-      spent = subst (λ (n : ℕ). Spent n s false p) (sym (length-append ws vs)) (spent_ends (length vs) e.spent);
+          ∙ ap (λ (x : List ByteWrite). all_done x a) (sym (take-append-le k ws vs (allowed_le (lasts s) (length ws))))
+          ∙ ap (λ (n : ℕ). all_done (take n (ws ++ vs)) a) (sym (allowed_ends (length vs) e.asked))
+          ∙ ap (λ (n : ℕ). all_done (take (allowed (lasts s) n) (ws ++ vs)) a) (sym (length-append ws vs));
+      asked = subst (λ (n : ℕ). Asked n s false p) (sym (length-append ws vs)) (asked_ends (length vs) e.asked);
     }
 
 -- what is left of consecutive byte writes, by the first
@@ -78,8 +68,8 @@ goes_on is e f = rw is (ran_then e f)
 pub ends_here : {w : ByteWrite} {ws rest : List ByteWrite} {a b : List ℕ} {s p : Supply} → ws ≡ w ∷ rest → Ran (w ∷ []) a s false b p → Ran ws a s false b p
 ends_here {rest} is e = rw is (ran_ends rest e)
 
-pub nothing_left : {ws : List ByteWrite} {a : List ℕ} {s : Supply} → ws ≡ [] → is_on s ≡ true → Ran ws a s true a s
-nothing_left {a} {s} is on = rw is (ran_none a s on)
+pub nothing_left : {ws : List ByteWrite} {a : List ℕ} {s : Supply} → ws ≡ [] → Ran ws a s true a s
+nothing_left {a} {s} is = rw is (ran_none a s)
 
 pub ran_stops : {ws : List ByteWrite} (vs : List ByteWrite) {a b : List ℕ} {s p : Supply} {r : Bool} → r ≡ false → Ran ws a s r b p → Ran (ws ++ vs) a s r b p
 ran_stops {ws} vs {a} {b} {s} {p} {r} no' e =

@@ -1,8 +1,8 @@
 -- How blocks stand in bytes. A cell is 34 bytes: front, 32 payload bytes, back. Assumes nothing.
 use Rattle.std.specs.Prelude.{◌≡◌, ℕ, ◌+◌, ◌*◌, ◌%◌, ◌<◌, ◌≤◌, Bool, cond, ◌⊎◌, List, [], ◌∷◌, ◌++◌, length, take, drop, ◌==◌, slice_index}
 use Rattle.supply.specs.Cells.{cell_of, blocks_by}
-use Rattle.supply.specs.Writing.{Tears}
-use Rattle.image.specs.Bytes.{written}
+use Rattle.supply.specs.Writing.{Tears, written}
+use Rattle.cells.specs.Layout.{Layout}
 use Rattle.device.specs.declared.Block.{Block}
 use Rattle.device.specs.declared.Block.TheVariants.{Good, Damaged}
 
@@ -36,6 +36,17 @@ cell_after k c payload = written k (writes c payload) c
 -- all bytes with the first k byte writes to block i done, and every other byte unchanged
 abbrev pub bytes_after : ℕ → List ℕ → ℕ → List ℕ → List ℕ
 bytes_after k bytes i payload = take (34 * i) bytes ++ written k (writes (cell bytes i) payload) (drop (34 * i) bytes)
+
+-- this layout of cells, where what is written goes by the cell at the front of the part
+abbrev pub image_layout : Layout
+image_layout =
+    record {
+      size = 34;
+      content = content;
+      takes = λ payload. length payload ≡ 32;
+      steps = 34;
+      after = λ k part payload. written k (writes (take 34 part) payload) part;
+    }
 
 -- the 34 byte writes of a cell, from a good one and from a damaged one alike
 abbrev pub EveryCut : Type 0

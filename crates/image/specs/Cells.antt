@@ -1,30 +1,18 @@
 -- What byte writes leave in a cell, and in the blocks. Assumes nothing.
-use Rattle.std.specs.Prelude.{◌≡◌, ℕ, ◌+◌, ◌-◌, ◌*◌, ◌<◌, ◌≤◌, List, [], ◌∷◌, ◌++◌, length, get_or, take, drop, set, ◌≢◌, slice_index, slice_index_or, slice_set, refl}
-use Rattle.std.proofs.Common.{sym, ap, ◌∙◌, inl, ⊎_elim, arith, length-append, length-take, length-drop}
-use Rattle.std.proofs.lemmas.List.{append-nil, same_lists, get_or_append_left, get_or-append_right, get_or-take, get_or-drop, take_all, drop_all, take_at, get_or_push, length_push, length-take-le}
+use Rattle.std.specs.Prelude.{◌≡◌, ℕ, ◌+◌, ◌-◌, ◌*◌, ◌<◌, ◌≤◌, List, [], ◌∷◌, ◌++◌, length, get_or, take, drop, ◌≢◌, slice_index, slice_set, refl}
+use Rattle.std.proofs.Common.{sym, ap, ◌∙◌, inl, ⊎_elim, arith, length-drop}
+use Rattle.std.proofs.lemmas.List.{append-nil, same_lists, get_or-take, get_or-drop, take-take, take_all, drop_all, take_at, get_or_push, length_push, length-take-le}
 use Rattle.std.proofs.lemmas.Bool.{eq-eqb, ne_eqb, cond-true, cond-false, cases_lt}
-use Rattle.supply.proofs.Cells.{blocks_spliced, inside, outside, length_spliced}
+use Rattle.supply.specs.Writing.{written}
+use Rattle.supply.proofs.Cells.{inside, outside, length_spliced}
+use Rattle.supply.proofs.Writes.{written_below, written_above, length_written}
 use Rattle.device.specs.declared.Block.TheVariants.{Good, Damaged}
-use Rattle.image.specs.Bytes.{written}
-use Rattle.image.specs.Cell.{cell, good, content, blocks_of, stamp, writes, cell_after, bytes_after, EveryCut, Bytewise, InOrder}
+use Rattle.cells.specs.Layout.{Confined}
+use Rattle.cells.specs.Rule as rule
+use Rattle.image.specs.Cell.{image_layout, cell, good, content, blocks_of, stamp, writes, cell_after, bytes_after, EveryCut, Bytewise, InOrder}
 
 pub length_writes : (c payload : List ℕ) → length payload ≡ 32 → length (writes c payload) ≡ 34
 length_writes c payload e = omega (arith, length_push payload (stamp c))
-
-module _ (k : ℕ) (new old : List ℕ) (within : k ≤ length new) where
-  front : length (take k new) ≡ k
-  front = length-take-le k new within
-
-  pub written_below : (j d : ℕ) → j < k → slice_index_or (written k new old) j d ≡ slice_index_or new j d
-  written_below j d h = get_or_append_left (take k new) (drop k old) d j (omega (arith, front)) ∙ get_or-take k new j d h
-
-  pub written_above : (j d : ℕ) → k ≤ j → slice_index_or (written k new old) j d ≡ slice_index_or old j d
-  written_above j d h =
-      let e : k + (j - k) ≡ j = omega arith in
-      get_or-append_right (take k new) (drop k old) k j d front h ∙ get_or-drop k old (j - k) d ∙ ap (λ (n : ℕ). get_or old n d) e
-
-  pub length_written : k ≤ length old → length (written k new old) ≡ length old
-  length_written h = simp (length-append, length-take, length-drop) (omega arith)
 
 pub content_good : (c : List ℕ) → slice_index c 0 ≡ slice_index c 33 → content c ≡ Good (take 32 (drop 1 c))
 content_good c e = cond-true (good c) (Good (take 32 (drop 1 c))) Damaged (eq-eqb (slice_index c 0) (slice_index c 33) e)
@@ -70,6 +58,17 @@ take_written k new part w h r =
     (λ above. written_above k new part w j d above ∙ sym (get_or-take 34 part j d low) ∙ sym (written_above k new (take 34 part) w j d above))
     (cases_lt j k))
 
+-- byte writes to a part that starts with a cell are to the cell alone
+pub confined : (k : ℕ) (part payload : List ℕ) → k ≤ 34 → length payload ≡ 32 → 34 ≤ length part → Confined image_layout k part payload
+confined k part payload h size room =
+    let new : List ℕ = writes (take 34 part) payload in
+    let within : k ≤ length new = omega (arith, length_writes (take 34 part) payload size) in
+    record {
+      long = length_written k new part within (omega arith);
+      rest = λ j d past. written_above k new part within j d (omega arith);
+      front = take_written k new part within h room ∙ ap (λ (c : List ℕ). written k (writes c payload) (take 34 part)) (sym (take-take 34 34 part (omega arith)));
+    }
+
 module _ (k : ℕ) (bytes : List ℕ) (i : ℕ) (payload : List ℕ) (fits : k ≤ 34) (size : length payload ≡ 32) (room : 34 * i + 34 ≤ length bytes) where
   abbrev new : List ℕ
   new = writes (cell bytes i) payload
@@ -80,23 +79,17 @@ module _ (k : ℕ) (bytes : List ℕ) (i : ℕ) (payload : List ℕ) (fits : k �
   within : k ≤ length new
   within = omega (arith, length_writes (cell bytes i) payload size)
 
-  rest : 34 ≤ length old
-  rest = simp length-drop (omega arith)
-
-  long : length (written k new old) ≡ length old
-  long = length_written k new old within (omega (arith, rest))
-
-  tail : (m d : ℕ) → 34 ≤ m → slice_index_or (written k new old) m d ≡ slice_index_or old m d
-  tail m d h = written_above k new old within m d (omega arith)
+  cell_alone : Confined image_layout k old payload
+  cell_alone = confined k old payload fits size (simp length-drop (omega arith))
 
   -- a write changes its block and no other
   pub blocks_after : blocks_of (bytes_after k bytes i payload) ≡ slice_set (blocks_of bytes) i (content (cell_after k (cell bytes i) payload))
   blocks_after =
-      blocks_spliced 34 bytes i (written k new old) room long tail content (omega arith)
-      ∙ ap (λ (c : List ℕ). set (blocks_of bytes) i (content c)) (take_written k new old within fits rest)
+      rule.blocks_after image_layout bytes i payload k room (omega arith) cell_alone
+      ∙ ap (λ (c : List ℕ). slice_set (blocks_of bytes) i (content (written k (writes c payload) (cell bytes i)))) (take_all 34 (cell bytes i) (omega (arith, length-take-le 34 old (simp length-drop (omega arith)))))
 
   here : (n : ℕ) → slice_index (bytes_after k bytes i payload) (34 * i + n) ≡ slice_index (written k new old) n
-  here n = inside 34 bytes i (written k new old) room long tail n 0
+  here n = inside 34 bytes i (written k new old) room cell_alone.long cell_alone.rest n 0
 
   past : (n : ℕ) → 34 * i + k ≤ n → slice_index (bytes_after k bytes i payload) n ≡ slice_index bytes n
   past n h =
@@ -110,9 +103,9 @@ module _ (k : ℕ) (bytes : List ℕ) (i : ℕ) (payload : List ℕ) (fits : k �
   pub bytewise : Bytewise k bytes i payload
   bytewise =
       record {
-        long = length_spliced 34 bytes i (written k new old) room long tail;
+        long = length_spliced 34 bytes i (written k new old) room cell_alone.long cell_alone.rest;
         new = λ n h. here n ∙ written_below k new old within n 0 h;
-        old = λ n h. ⊎_elim (λ low. outside 34 bytes i (written k new old) room long tail n 0 (inl low)) (past n) h;
+        old = λ n h. ⊎_elim (λ low. outside 34 bytes i (written k new old) room cell_alone.long cell_alone.rest n 0 (inl low)) (past n) h;
       }
 
 pub in_order : InOrder

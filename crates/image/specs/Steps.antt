@@ -1,38 +1,34 @@
 -- What an image does, byte for byte. Assumes nothing.
-use Rattle.std.specs.Prelude.{◌≡◌, ℕ, Bool, List, length, vec_items, Result}
-use Rattle.device.specs.Reach.{UnlessRefused, read_answer}
+use Rattle.std.specs.Prelude.{ℕ, Bool, List, Result}
 use Rattle.device.specs.declared.Block.{Block}
 use Rattle.device.specs.declared.DeviceFault.{DeviceFault}
-use Rattle.supply.specs.Budget.{is_on, cuts_of, Raised}
-use Rattle.supply.specs.Writing.{BlockWrite}
-use Rattle.image.specs.Cell.{blocks_of, bytes_after}
-use Rattle.image.specs.declared.Image.{Image}
+use Rattle.cells.specs.Device.{cells_blocks, cells_on, cells_cuts, CellsRaises, CellsReads, Stepwise, CellsWrites}
+use Rattle.cells.specs.declared.Cells.{Cells}
+use Rattle.image.specs.Cell.{image_layout}
+use Rattle.image.specs.declared.Framed.{Framed}
 
 -- the blocks of an image are those of its bytes
-abbrev pub image_blocks : Image → List Block
-image_blocks d = blocks_of (vec_items d.bytes)
+abbrev pub image_blocks : Cells Framed → List Block
+image_blocks = cells_blocks image_layout
 
-abbrev pub image_on : Image → Bool
-image_on d = is_on d.supply
+abbrev pub image_on : Cells Framed → Bool
+image_on = cells_on
 
-abbrev pub image_cuts : Image → List ℕ
-image_cuts d = cuts_of d.supply
+abbrev pub image_cuts : Cells Framed → List ℕ
+image_cuts = cells_cuts
 
 -- a power-up leaves the bytes
-pub record ImageRaises (d e : Image) : Type 0 where
-  pub bytes : e.bytes ≡ d.bytes
-  pub supply : Raised d.supply e.supply
+abbrev pub ImageRaises : Cells Framed → Cells Framed → Type 0
+ImageRaises = CellsRaises
 
 -- a read leaves the image as it is
-pub record ImageReads (d : Image) (at : ℕ) (r : Result Block DeviceFault) (e : Image) : Type 0 where
-  pub same : e ≡ d
-  pub answer : r ≡ read_answer (image_blocks d) (image_on d) at
+abbrev pub ImageReads : Cells Framed → ℕ → Result Block DeviceFault → Cells Framed → Type 0
+ImageReads = CellsReads image_layout
 
 -- a write of 34 byte writes in byte order: every other byte is as it was
-pub record WritesInOrder (d : Image) (at : ℕ) (payload : List ℕ) (r : Result Unit DeviceFault) (e : Image) : Type 0 where
-  pub size : length payload ≡ 32
-  pub exactly : BlockWrite 34 (λ k. bytes_after k (vec_items d.bytes) at payload) at d.supply r (vec_items e.bytes) e.supply
+abbrev pub WritesInOrder : Cells Framed → ℕ → List ℕ → Result Unit DeviceFault → Cells Framed → Type 0
+WritesInOrder = Stepwise image_layout
 
 -- with power on and the block there a write is these byte writes; else it is refused
-abbrev pub ImageWrites : Image → ℕ → List ℕ → Result Unit DeviceFault → Image → Type 0
-ImageWrites d at payload r e = UnlessRefused (image_blocks d) (image_on d) at (WritesInOrder d at payload r e) r d e
+abbrev pub ImageWrites : Cells Framed → ℕ → List ℕ → Result Unit DeviceFault → Cells Framed → Type 0
+ImageWrites = CellsWrites image_layout

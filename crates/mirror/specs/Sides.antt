@@ -1,7 +1,8 @@
 -- What a mirror makes of its two sides. Assumes nothing.
-use Rattle.std.specs.Prelude.{ℕ, List, [], ◌∷◌, Ok, Err, Result}
+use Rattle.std.specs.Prelude.{ℕ, Bool, ◌&&◌, List, [], ◌∷◌, Ok, Err, Result}
 use Rattle.device.specs.declared.Block.{Block}
 use Rattle.device.specs.declared.Block.TheVariants.{Good, Damaged}
+use Rattle.device.specs.declared.Device.{Ghosts}
 use Rattle.device.specs.declared.DeviceFault.{DeviceFault}
 
 -- the first side's block where it is good, else the second's
@@ -31,3 +32,17 @@ module _ {A B : Type 0} (reads₁ : A → ℕ → Result Block DeviceFault → A
     second_first : {a a' a'' : A} {b b' : B} {at : ℕ} {old bytes : List ℕ} {r : Result Unit DeviceFault} → reads₁ a at (Ok (Good old)) a' → writes₂ b at bytes (Ok tt) b' → writes₁ a' at bytes r a'' → MirrorWrite a b at bytes r a'' b'
     first_cut : {a a' a'' : A} {b : B} {at : ℕ} {bytes : List ℕ} {f : DeviceFault} → reads₁ a at (Ok Damaged) a' → writes₁ a' at bytes (Err f) a'' → MirrorWrite a b at bytes (Err f) a'' b
     first_first : {a a' a'' : A} {b b' : B} {at : ℕ} {bytes : List ℕ} {r : Result Unit DeviceFault} → reads₁ a at (Ok Damaged) a' → writes₁ a' at bytes (Ok tt) a'' → writes₂ b at bytes r b' → MirrorWrite a b at bytes r a'' b'
+
+-- two sides as one device
+module _ {A B : Type 0} (one : Ghosts A) (two : Ghosts B) where
+  abbrev pub both : A → B → List Block
+  both a b = merged (one.blocks a) (two.blocks b)
+
+  abbrev pub both_on : A → B → Bool
+  both_on a b = one.powered a && two.powered b
+
+  abbrev pub BothRead : A → B → ℕ → Result Block DeviceFault → A → B → Type 0
+  BothRead = MirrorRead one.reads two.reads
+
+  abbrev pub BothWrite : A → B → ℕ → List ℕ → Result Unit DeviceFault → A → B → Type 0
+  BothWrite = MirrorWrite one.reads one.writes two.writes

@@ -4,7 +4,7 @@
 ghost use Rattle.std.specs.Prelude.{◌≡◌, ◌&&◌, Err};
 ghost use Rattle.std.proofs.Common.{ap, ◌∙◌};
 ghost use Rattle.device.specs.Reach.{UnlessRefused};
-ghost use Rattle.mirror.specs.Sides.{merged, MirrorRead, MirrorWrite};
+ghost use Rattle.mirror.specs.Sides.{merged, both, both_on, BothRead, BothWrite};
 ghost use Rattle.std.proofs.lemmas.Bool.{and_from};
 ghost use Rattle.device.proofs.Reach.{read_by_reach, write_by_reach, same_if_refused};
 ghost use Rattle.mirror.specs.Rule.{read_rule, write_rule, read_made, write_made};
@@ -29,28 +29,28 @@ impl<A: Device, B: Device> Mirror<A, B> {
 }
 
 impl<A: Device, B: Device> Device for Mirror<A, B> {
-    ghost blocks = { λ m. merged (A.Device.blocks m.first) (B.Device.blocks m.second) };
+    ghost blocks = { λ m. both A.Device B.Device m.first m.second };
 
-    ghost powered = { λ m. A.Device.powered m.first && B.Device.powered m.second };
+    ghost powered = { λ m. both_on A.Device B.Device m.first m.second };
 
     ghost raises = { λ m n. A.Device.raises m.first n.first × B.Device.raises m.second n.second };
 
-    ghost reads = { λ m at r n. UnlessRefused (merged (A.Device.blocks m.first) (B.Device.blocks m.second)) (A.Device.powered m.first && B.Device.powered m.second) at (MirrorRead A.Device.reads B.Device.reads m.first m.second at r n.first n.second) r m n };
+    ghost reads = { λ m at r n. UnlessRefused (both A.Device B.Device m.first m.second) (both_on A.Device B.Device m.first m.second) at (BothRead A.Device B.Device m.first m.second at r n.first n.second) r m n };
 
-    ghost writes = { λ m at bytes r n. UnlessRefused (merged (A.Device.blocks m.first) (B.Device.blocks m.second)) (A.Device.powered m.first && B.Device.powered m.second) at (MirrorWrite A.Device.reads A.Device.writes B.Device.writes m.first m.second at bytes r n.first n.second) r m n };
+    ghost writes = { λ m at bytes r n. UnlessRefused (both A.Device B.Device m.first m.second) (both_on A.Device B.Device m.first m.second) at (BothWrite A.Device B.Device m.first m.second at bytes r n.first n.second) r m n };
 
     ghost raised = { λ d e w.
         let one = A.Device.raised d.first e.first w.0 in
         let two = B.Device.raised d.second e.second w.1 in
         (ap (λ x. merged x (B.Device.blocks e.second)) one.0 ∙ ap (merged (A.Device.blocks d.first)) two.0, and_from (A.Device.powered e.first) (B.Device.powered e.second) one.1 two.1) };
 
-    ghost reading = { λ d e at r w. read_by_reach (λ m. merged (A.Device.blocks m.first) (B.Device.blocks m.second)) (λ m. A.Device.powered m.first && B.Device.powered m.second) d e at _ r w (λ on here m. read_rule A.Device.blocks A.Device.powered A.Device.reads A.Device.writes B.Device.blocks B.Device.powered B.Device.reads B.Device.writes A.Device.reading A.Device.writing B.Device.reading B.Device.writing on here m) };
+    ghost reading = { λ d e at r w. read_by_reach (λ m. both A.Device.own B.Device.own m.first m.second) (λ m. both_on A.Device.own B.Device.own m.first m.second) d e at _ r w (λ on here m. read_rule A.Device.own B.Device.own A.Device.reading A.Device.writing B.Device.reading B.Device.writing on here m) };
 
-    ghost writing = { λ d e at bytes r w. write_by_reach (λ m. merged (A.Device.blocks m.first) (B.Device.blocks m.second)) (λ m. A.Device.powered m.first && B.Device.powered m.second) d e at _ bytes r w (λ on here m. write_rule A.Device.blocks A.Device.powered A.Device.reads A.Device.writes B.Device.blocks B.Device.powered B.Device.reads B.Device.writes A.Device.reading A.Device.writing B.Device.reading B.Device.writing on here m) };
+    ghost writing = { λ d e at bytes r w. write_by_reach (λ m. both A.Device.own B.Device.own m.first m.second) (λ m. both_on A.Device.own B.Device.own m.first m.second) d e at _ bytes r w (λ on here m. write_rule A.Device.own B.Device.own A.Device.reading A.Device.writing B.Device.reading B.Device.writing on here m) };
 
-    ghost unread = { λ d e at w. same_if_refused (merged (A.Device.blocks d.first) (B.Device.blocks d.second)) (A.Device.powered d.first && B.Device.powered d.second) at _ (Err Refused) d e w (λ on here m. read_made A.Device.blocks A.Device.powered A.Device.reads A.Device.writes B.Device.blocks B.Device.powered B.Device.reads B.Device.writes A.Device.reading A.Device.writing B.Device.reading B.Device.writing on here m) };
+    ghost unread = { λ d e at w. same_if_refused (both A.Device.own B.Device.own d.first d.second) (both_on A.Device.own B.Device.own d.first d.second) at _ (Err Refused) d e w (λ on here m. read_made A.Device.own B.Device.own A.Device.reading A.Device.writing B.Device.reading B.Device.writing on here m) };
 
-    ghost unwritten = { λ d e at bytes w. same_if_refused (merged (A.Device.blocks d.first) (B.Device.blocks d.second)) (A.Device.powered d.first && B.Device.powered d.second) at _ (Err Refused) d e w (λ on here m. write_made A.Device.blocks A.Device.powered A.Device.reads A.Device.writes B.Device.blocks B.Device.powered B.Device.reads B.Device.writes A.Device.reading A.Device.writing B.Device.reading B.Device.writing on here m) };
+    ghost unwritten = { λ d e at bytes w. same_if_refused (both A.Device.own B.Device.own d.first d.second) (both_on A.Device.own B.Device.own d.first d.second) at _ (Err Refused) d e w (λ on here m. write_made A.Device.own B.Device.own A.Device.reading A.Device.writing B.Device.reading B.Device.writing on here m) };
 
     // As large as the smaller side.
     fn block_count(&self) -> usize {
@@ -68,9 +68,7 @@ impl<A: Device, B: Device> Device for Mirror<A, B> {
 
     // The second side is read only where the first is damaged.
     fn read(&mut self, at: usize) -> Result<Block, DeviceFault> {
-        if !self.is_on() || at >= self.block_count() {
-            return Err(DeviceFault::Refused);
-        }
+        self.admit(at)?;
         match self.first.read(at)? {
             Block::Good(bytes) => Ok(Block::Good(bytes)),
             Block::Damaged => self.second.read(at),
@@ -79,9 +77,7 @@ impl<A: Device, B: Device> Device for Mirror<A, B> {
 
     // A good block of the first side is written last, so that one of the sides has the old bytes or the new.
     fn write(&mut self, at: usize, bytes: [u8; 32]) -> Result<(), DeviceFault> {
-        if !self.is_on() || at >= self.block_count() {
-            return Err(DeviceFault::Refused);
-        }
+        self.admit(at)?;
         match self.first.read(at)? {
             Block::Good(_) => {
                 self.second.write(at, bytes)?;

@@ -1,5 +1,6 @@
 -- One more call on a chain, and the promise of a chain that begins with a format.
-use Rattle.std.proofs.Common.{◌≡◌, ℕ, Bool, true, List, [], ◌∷◌, ◌++◌, map, Ok, Err, Result, sym, refl, ap, ◌∙◌, subst}
+use Rattle.std.proofs.Common.{◌≡◌, ℕ, Bool, true, List, [], ◌∷◌, ◌++◌, Ok, Err, Result, sym, ap, ◌∙◌, subst}
+use Rattle.std.proofs.lemmas.List.{map-append}
 use Rattle.device.specs.Power.{ReadAnswer, WriteAnswer}
 use Rattle.device.specs.declared.Block.{Block}
 use Rattle.device.specs.declared.DeviceFault.{DeviceFault}
@@ -25,10 +26,6 @@ use Rattle.model.specs.Model.{Model, fresh}
 use Rattle.model.specs.Rules.{Asks}
 use Rattle.model.specs.Promise.{Point, Promise, ShowsModel, reached}
 use Rattle.run.specs.Ran.{Chain, Points}
-
-map_push : {A B : Type 0} (f : A → B) (xs : List A) (x : A) → map f (xs ++ x ∷ []) ≡ map f xs ++ f x ∷ []
-map_push f [] x = refl
-map_push f (y ∷ xs) x = ap (λ (zs : List _). f y ∷ zs) (map_push f xs x)
 
 -- an engine that agrees with a model shows it
 shows : (x m : Model) → Agrees x m → ShowsModel x m
@@ -65,8 +62,8 @@ module _ {D V : Type 0} (blocks : D → List Block) (powered : D → Bool) (rais
       let point : Point D = record { call = c; answer = a; next = goes.0; device = device_of e' } in
       record {
         points = ps ++ point ∷ [];
-        calls_are = map_push (λ (q : Point D). q.call) ps point ∙ ap (λ (cs : List Call). cs ++ c ∷ []) was.calls_are;
-        answers_are = map_push (λ (q : Point D). q.answer) ps point ∙ ap (λ (cs : List Answer). cs ++ a ∷ []) was.answers_are;
+        calls_are = map-append (λ (q : Point D). q.call) ps (point ∷ []) ∙ ap (λ (cs : List Call). cs ++ c ∷ []) was.calls_are;
+        answers_are = map-append (λ (q : Point D). q.answer) ps (point ∷ []) ∙ ap (λ (cs : List Answer). cs ++ a ∷ []) was.answers_are;
         follows = follows_push blocks powered raises reads writes (nodes s) v point was.follows goes.1 (subst (λ (d : D). Asks blocks raises reads writes v (reached m ps) c a d (device_of e')) (sym was.device_is) goes.2);
         everywhere = all_push blocks powered raises reads writes (nodes s) v (Linked blocks powered (nodes s) v) m d₀ ps point was.everywhere goes.3.linked;
         device_is = left_push blocks powered raises reads writes (nodes s) v d₀ ps point;

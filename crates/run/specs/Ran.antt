@@ -1,6 +1,7 @@
 -- A format and a list of calls on one engine.
 use Rattle.std.specs.Prelude.{◌≡◌, ℕ, min, Bool, List, map, length, take, drop, Ok, Err, Result}
 use Rattle.device.specs.declared.Block.{Block}
+use Rattle.device.specs.declared.Device as device
 use Rattle.device.specs.declared.DeviceFault.{DeviceFault}
 use Rattle.schema.specs.Nodes.{nodes}
 use Rattle.schema.specs.declared.typed.Schema.{Schema}
@@ -8,6 +9,7 @@ use Rattle.config.specs.Images.{image}
 use Rattle.config.specs.Lawful.{Lawful}
 use Rattle.config.specs.declared.entry.Entry.{Entry}
 use Rattle.validate.specs.declared.broken.Broken.{Broken}
+use Rattle.validate.specs.declared.validator.Validator as validator
 use Rattle.calls.specs.declared.call.Answer.{Answer}
 use Rattle.calls.specs.declared.call.Answer.TheVariants.{Done, Refused}
 use Rattle.calls.specs.declared.call.Call.{Call}
@@ -57,3 +59,11 @@ module _ {D V : Type 0} (blocks : D → List Block) (powered : D → Bool) (rais
   abbrev pub Ran : Engine D V → List ℕ → List Call → List Answer → Result ℕ EngineFault → List Answer → Engine D V → Type 0
   Ran e bytes calls before (Err f) after e' = FormattedBy blocks powered raises reads writes verdict e bytes (Refused f) e' × (after ≡ before)
   Ran e bytes calls before (Ok n) after e' = RanOn e bytes calls before n after e'
+
+-- the same by all that a device and a validator mean
+module _ {D V : Type 0} (d : device.Ghosts D) (v : validator.Ghosts V) where
+  abbrev pub ChainOn : Engine D V → List Call → List Answer → Engine D V → Type 0
+  ChainOn e calls answers e' = Chain d.blocks d.powered d.raises d.reads d.writes v.verdict e calls answers e'
+
+  abbrev pub RunOn : Engine D V → List ℕ → List Call → List Answer → Result ℕ EngineFault → List Answer → Engine D V → Type 0
+  RunOn e bytes calls before r after e' = Ran d.blocks d.powered d.raises d.reads d.writes v.verdict e bytes calls before r after e'

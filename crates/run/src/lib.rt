@@ -3,7 +3,7 @@
 
 ghost use Rattle.std.specs.Prelude.{◌≡◌, min, length, take, drop};
 ghost use Rattle.engine.specs.Seen.{schema_of, validator_of};
-ghost use Rattle.run.specs.Ran.{Chain, Ran};
+ghost use Rattle.run.specs.Ran.{ChainOn, RunOn};
 
 use calls::{Answer, Call, EngineFault};
 use device::Device;
@@ -20,9 +20,10 @@ fn perform_all<D: Device, V: Validator>(
     ensures rest { drop result answers.new ≡ drop result answers.old }
     ensures validator { validator_of engine.new ≡ validator_of engine.old }
     ensures schema { schema_of engine.new ≡ schema_of engine.old }
-    ensures chain { Chain D.Device.blocks D.Device.powered D.Device.raises D.Device.reads D.Device.writes V.Validator.verdict engine.old (take result calls.now) (take result answers.new) engine.new }
+    ensures chain { ChainOn D.Device V.Validator engine.old (take result calls.now) (take result answers.new) engine.new }
 {
     let n = calls.len().min(answers.len());
+    // By index: after a zip with `iter_mut` nothing is known of the slots, and `rest` and `chain` stay open.
     for i in 0..n {
         answers[i] = engine.perform(calls[i]);
     }
@@ -37,7 +38,7 @@ pub fn run<D: Device, V: Validator>(
     calls: &[Call<'_>],
     answers: &mut [Answer],
 ) -> Result<usize, EngineFault>
-    ensures { Ran D.Device.blocks D.Device.powered D.Device.raises D.Device.reads D.Device.writes V.Validator.verdict engine.old image.now calls.now answers.old result answers.new engine.new }
+    ensures { RunOn D.Device V.Validator engine.old image.now calls.now answers.old result answers.new engine.new }
 {
     engine.format(image)?;
     Ok(perform_all(engine, calls, answers))

@@ -34,33 +34,27 @@ top_row r k p =
     ap (λ n. is_top_list (Some n)) (cond-true _ _ _ (eq-eqb _ _ k)) ∙ ap no_parent (cond-true _ _ _ (eq-eqb _ _ p))
 
 found_list : (o : Option NodeRow) → number_in (λ r. r.kind) o ≡ 1 → is_list (option_map node_of o) ≡ true
-found_list None k = let no_kind : ⊥ = omega arith in absurd no_kind
+found_list None k = absurd (omega arith)
 found_list (Some r) k = list_row r k
 
 found_top : (o : Option NodeRow) → number_in (λ r. r.kind) o ≡ 1 → number_in (λ r. r.parent) o ≡ 0 → is_top_list (option_map node_of o) ≡ true
-found_top None k p = let no_kind : ⊥ = omega arith in absurd no_kind
+found_top None k p = absurd (omega arith)
 found_top (Some r) k p = top_row r k p
 
 module _ (rows : List NodeRow) where
-  leaf_ok : (n : ℕ) (r : NodeRow) → ParentLawful rows n r → leaf_placed (map node_of rows) (optional r.parent) ≡ true
-  leaf_ok n r p =
+  -- a node stands nowhere, or where the rows have what f asks for
+  place_ok : (f : Option ℕ → Bool) (g : Option Node → Bool) (p : ℕ) → f None ≡ true → f (Some p) ≡ g (at (map node_of rows) p) → (0 < p → g (option_map node_of (at rows p)) ≡ true) → f (optional p) ≡ true
+  place_ok f g p none some there =
       ⊎_elim
-      (λ (e : r.parent ≡ 0). ap (leaf_placed (map node_of rows)) (cond-true _ _ _ (eq-eqb _ _ e)))
-      (λ (ne : r.parent ≡ 0 → ⊥).
-      ap (leaf_placed (map node_of rows)) (cond-false _ _ _ (ne_eqb _ _ ne))
-      ∙ ap is_list (at_map node_of rows r.parent)
-      ∙ found_list (at rows r.parent) (p.in_list (omega arith)))
-      (cases_eq r.parent 0)
+      (λ (e : p ≡ 0). ap f (cond-true _ _ _ (eq-eqb _ _ e)) ∙ none)
+      (λ (ne : p ≡ 0 → ⊥). ap f (cond-false _ _ _ (ne_eqb _ _ ne)) ∙ some ∙ ap g (at_map node_of rows p) ∙ there (omega arith))
+      (cases_eq p 0)
+
+  leaf_ok : (n : ℕ) (r : NodeRow) → ParentLawful rows n r → leaf_placed (map node_of rows) (optional r.parent) ≡ true
+  leaf_ok n r p = place_ok (leaf_placed (map node_of rows)) is_list r.parent refl refl (λ above. found_list (at rows r.parent) (p.in_list above))
 
   list_ok : (n : ℕ) (r : NodeRow) → ParentLawful rows n r → parent_at rows r.parent ≡ 0 → list_placed (map node_of rows) (optional r.parent) ≡ true
-  list_ok n r p top =
-      ⊎_elim
-      (λ (e : r.parent ≡ 0). ap (list_placed (map node_of rows)) (cond-true _ _ _ (eq-eqb _ _ e)))
-      (λ (ne : r.parent ≡ 0 → ⊥).
-      ap (list_placed (map node_of rows)) (cond-false _ _ _ (ne_eqb _ _ ne))
-      ∙ ap is_top_list (at_map node_of rows r.parent)
-      ∙ found_top (at rows r.parent) (p.in_list (omega arith)) top)
-      (cases_eq r.parent 0)
+  list_ok n r p top = place_ok (list_placed (map node_of rows)) is_top_list r.parent refl refl (λ above. found_top (at rows r.parent) (p.in_list above) top)
 
   row_ok : (n : ℕ) (r : NodeRow) → NodeLawful rows n r → placed (map node_of rows) (node_of r) ≡ true
   row_ok n r node =
@@ -85,8 +79,8 @@ module _ (rows : List NodeRow) where
 -- ---- three lists around one another
 every_at : {A : Type 0} (f : A → Bool) (xs : List A) (n : ℕ) (x : A) → every f xs ≡ true → at xs n ≡ Some x → f x ≡ true
 unfolding at
-every_at f [] n x h e = let z : ◌≡◌ {A = ℕ} 0 1 = cc in let never : ⊥ = omega arith in absurd never
-every_at f (y ∷ ys) zero x h e = let z : ◌≡◌ {A = ℕ} 0 1 = cc in let never : ⊥ = omega arith in absurd never
+every_at f [] n x h e = cc
+every_at f (y ∷ ys) zero x h e = cc
 every_at f (y ∷ ys) (suc zero) x h e = let one : y ≡ x = cc in subst (λ v. f v ≡ true) one (and_parts (f y) (every f ys) h).0
 every_at f (y ∷ ys) (suc (suc n)) x h e = every_at f ys (suc n) x (and_parts (f y) (every f ys) h).1 e
 
@@ -109,7 +103,7 @@ module _ (ns : List Node) (deep : two_deep ns ≡ true) where
       go l.parent (every_at (placed ns) ns a.node (list_node l) deep e) (sym (ap (around_node a) e) ∙ h)
     where
       go : (p : Option ℕ) → list_placed ns p ≡ true → option_map (outer_entry a) p ≡ Some b → around ns b ≡ None
-      go None t h = let z : ◌≡◌ {A = ℕ} 0 1 = cc in let never : ⊥ = omega arith in absurd never
+      go None t h = cc
       go (Some p) t h =
           let is : outer_entry a p ≡ b = cc in
           subst (λ x. around ns x ≡ None) is (top_around (outer_entry a p) (at ns p) refl t)
@@ -118,19 +112,19 @@ module _ (ns : List Node) (deep : two_deep ns ≡ true) where
   three q a b h = from (at ns q.node) refl h
     where
       from : (o : Option Node) → at ns q.node ≡ o → around ns q ≡ Some a → around ns a ≡ Some b → around ns b ≡ None
-      from None e h k = let z : ◌≡◌ {A = ℕ} 0 1 = cc (sym (ap (around_node q) e) ∙ h) in let never : ⊥ = omega arith in absurd never
+      from None e h k = cc (sym (ap (around_node q) e) ∙ h)
       from (Some (list_node l)) e h k = go l.parent (every_at (placed ns) ns q.node (list_node l) deep e) (sym (ap (around_node q) e) ∙ h)
         where
           go : (p : Option ℕ) → list_placed ns p ≡ true → option_map (outer_entry q) p ≡ Some a → around ns b ≡ None
-          go None t h = let z : ◌≡◌ {A = ℕ} 0 1 = cc in let never : ⊥ = omega arith in absurd never
+          go None t h = cc
           go (Some p) t h =
               let is : outer_entry q p ≡ a = cc in
               let none : around ns a ≡ None = subst (λ x. around ns x ≡ None) is (top_around (outer_entry q p) (at ns p) refl t) in
-              let z : ◌≡◌ {A = ℕ} 0 1 = cc (sym k ∙ none) in let never : ⊥ = omega arith in absurd never
+              cc (sym k ∙ none)
       from (Some (Leaf l)) e h k = go l.parent (every_at (placed ns) ns q.node (Leaf l) deep e) (sym (ap (around_node q) e) ∙ h)
         where
           go : (p : Option ℕ) → leaf_placed ns p ≡ true → option_map (inner_entry q) p ≡ Some a → around ns b ≡ None
-          go None t h = let z : ◌≡◌ {A = ℕ} 0 1 = cc in let never : ⊥ = omega arith in absurd never
+          go None t h = cc
           go (Some p) t h =
               let is : inner_entry q p ≡ a = cc in
               list_around a b (at ns a.node) refl (subst (λ x. is_list (at ns x.node) ≡ true) is t) k

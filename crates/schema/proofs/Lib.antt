@@ -1,5 +1,4 @@
 pub mod Numbered
-pub mod Bad
-pub mod Filled
+pub mod Compare
 pub mod Small
 pub mod Depth

@@ -1,5 +1,5 @@
 -- The nodes that a lawful row names are few.
-use Rattle.std.proofs.Common.{◌≡◌, ℕ, ◌+◌, ◌<◌, ◌≤◌, List, length, get_or, sym, ap, ◌∙◌, ⊎_elim, arith}
+use Rattle.std.proofs.Common.{◌≡◌, ℕ, ◌+◌, ◌<◌, ◌≤◌, List, length, get_or, ap, ⊎_elim, arith}
 use Rattle.std.proofs.lemmas.Bool.{cases_lt, cases_eq}
 use Rattle.schema.specs.declared.nodes.NodeRow.{NodeRow}
 use Rattle.schema.specs.Rows.{number_in, kind_at}
@@ -10,7 +10,7 @@ use Rattle.schema.proofs.Numbered.{at_past}
 pub named_within : (rows : List NodeRow) (n : ℕ) → kind_at rows n ≡ 1 → n ≤ length rows
 named_within rows n h =
     ⊎_elim
-    (λ (past : length rows < n). let z : ◌≡◌ {A = ℕ} 0 1 = sym (ap (number_in (λ r. r.kind)) (at_past rows n past)) ∙ h in let no_row : ⊥ = omega arith in absurd no_row)
+    (λ (past : length rows < n). cc (ap (number_in (λ r. r.kind)) (at_past rows n past), h))
     (λ within. within)
     (cases_lt (length rows) n)
 

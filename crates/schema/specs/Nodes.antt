@@ -1,11 +1,12 @@
 -- The typed nodes of a schema.
-use Rattle.std.specs.Prelude.{◌≡◌, ℕ, cond, List, map, length, take, Some, None, Option, ◌==◌}
+use Rattle.std.specs.Prelude.{ℕ, cond, List, Some, None, Option, ◌==◌}
 use Rattle.schema.specs.declared.nodes.Kind.{Kind}
 use Rattle.schema.specs.declared.nodes.Kind.TheVariants.{List as list_kind, Leaf as leaf_kind}
 use Rattle.schema.specs.declared.nodes.NodeRow.{NodeRow}
 use Rattle.schema.specs.declared.nodes.Node.{Node}
 use Rattle.schema.specs.declared.nodes.Node.TheVariants.{List as list_node, Leaf}
 use Rattle.schema.specs.declared.typed.Schema.{Schema}
+use Rattle.table.specs.Slots.{items}
 
 -- the number of a kind of nodes
 abbrev pub kind_number : Kind → ℕ
@@ -25,8 +26,4 @@ node_of r =
 
 -- the nodes of a schema
 abbrev pub nodes : Schema → List Node
-nodes s = take s.count s.nodes
-
--- these are the nodes of the rows, and after them unused ones
-abbrev pub filled : List NodeRow → List Node → Type 0
-filled rows ns = take (length rows) ns ≡ map node_of rows
+nodes s = items s.nodes

@@ -5,10 +5,12 @@
 #![tactic(auto)]
 
 mod check;
+mod laws;
 mod nodes;
 mod path;
 mod typed;
 
-pub use nodes::{Kind, LeafNode, ListNode, Node, NodeRow, Range};
+pub use laws::paths_compare;
+pub use nodes::{Kind, LeafNode, ListNode, Node, NodeRow, Range, UnknownKind};
 pub use path::{Path, PathFault};
 pub use typed::{Schema, SchemaFault};

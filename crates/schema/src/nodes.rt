@@ -1,25 +1,31 @@
 // The rows of a schema as they are handed in, and its typed nodes.
 ghost use Rattle.std.specs.Prelude.{◌≡◌, ◌<◌};
-ghost use Rattle.fault.specs.Codes.{StandsFor};
+ghost use Rattle.fault.specs.Codes.{Named};
 ghost use Rattle.schema.specs.Nodes.{kind_number, node_of, optional};
 ghost use Rattle.schema.specs.Rows.{at};
 
 // The kinds of nodes.
-#[derive(Clone, Copy)]
+#[derive(Clone, Copy, PartialEq, Eq, Debug)]
 pub enum Kind {
     List = 1,
     Leaf = 2,
 }
 
-impl Kind {
+// A number that no kind of nodes has.
+#[derive(Clone, Copy, PartialEq, Eq, Debug)]
+pub struct UnknownKind(pub u32);
+
+impl TryFrom<u32> for Kind {
+    type Error = UnknownKind;
+
+    ghost try_from_gives = { Named kind_number (λ e. e.0) };
+
     // The kind of this number.
-    pub fn from_number(number: u32) -> Option<Self>
-        ensures { StandsFor kind_number number result }
-    {
+    fn try_from(number: u32) -> Result<Self, UnknownKind> {
         match number {
-            1 => Some(Kind::List),
-            2 => Some(Kind::Leaf),
-            _ => None,
+            1 => Ok(Kind::List),
+            2 => Ok(Kind::Leaf),
+            _ => Err(UnknownKind(number)),
         }
     }
 }
@@ -27,7 +33,8 @@ impl Kind {
 // A node as it is handed in, all of it plain numbers. Kind 1 is a list, kind 2 a leaf. Parent 0 is the top, and another
 // parent the number of a list; nodes are numbered from 1. Of a list, lo and hi bound its key, and maximum 0 is none. Of a
 // leaf, they bound its value, mandatory is a mark of 0 or 1, and reference 0 is none.
-#[derive(Clone, Copy)]
+// Stays plain numbers, as the caller gives them: they may break any rule, and the check has to tell which row does.
+#[derive(Clone, Copy, PartialEq, Eq, Debug)]
 pub struct NodeRow {
     pub kind: u32,
     pub parent: u32,
@@ -39,14 +46,14 @@ pub struct NodeRow {
 }
 
 // The numbers from lo to hi, both included.
-#[derive(Clone, Copy)]
+#[derive(Clone, Copy, PartialEq, Eq, Debug)]
 pub struct Range {
     pub lo: u32,
     pub hi: u32,
 }
 
 // A list: the list that it stands in, unless at the top; the range of its key; the most entries in one parent entry.
-#[derive(Clone, Copy)]
+#[derive(Clone, Copy, PartialEq, Eq, Debug)]
 pub struct ListNode {
     pub parent: Option<u8>,
     pub keys: Range,
@@ -55,7 +62,7 @@ pub struct ListNode {
 
 // A leaf: the list that it stands in, unless at the top; the range of its value; whether it has to be there; the list
 // whose key its value has to be.
-#[derive(Clone, Copy)]
+#[derive(Clone, Copy, PartialEq, Eq, Debug)]
 pub struct LeafNode {
     pub parent: Option<u8>,
     pub values: Range,
@@ -63,21 +70,33 @@ pub struct LeafNode {
     pub reference: Option<u8>,
 }
 
-#[derive(Clone, Copy)]
+#[derive(Clone, Copy, PartialEq, Eq, Debug)]
 pub enum Node {
     List(ListNode),
     Leaf(LeafNode),
 }
 
+// What the places of a schema without a node hold.
+pub(crate) const UNUSED: Node = Node::Leaf(LeafNode {
+    parent: None,
+    values: Range { lo: 0, hi: 0 },
+    mandatory: false,
+    reference: None,
+});
+
 // What has this number among the items, counted from 1.
 pub(crate) fn numbered<T: Copy>(items: &[T], number: u32) -> Option<T>
     ensures { result ≡ at items.now number }
 {
-    let place = number as usize;
-    if place == 0 || place > items.len() {
-        return None;
-    }
-    Some(items[place - 1])
+    let place = (number as usize).checked_sub(1)?;
+    items.get(place).copied()
+}
+
+// 0 stands for none.
+fn optional(number: u32) -> Option<u32>
+    ensures { result ≡ optional number }
+{
+    (number != 0).then_some(number)
 }
 
 // The node of this number, 0 for none.
@@ -85,11 +104,7 @@ fn named(number: u32) -> Option<u8>
     requires { number < 256 }
     ensures { result ≡ optional number }
 {
-    if number == 0 {
-        None
-    } else {
-        Some(number as u8)
-    }
+    optional(number).map(|node| node as u8)
 }
 
 // The typed node of a row. The nodes that it names have numbers below 256.
@@ -101,15 +116,11 @@ pub(crate) fn node_of(row: NodeRow) -> Node
         lo: row.lo,
         hi: row.hi,
     };
-    if row.kind == 1 {
+    if row.kind == Kind::List as u32 {
         return Node::List(ListNode {
             parent: named(row.parent),
             keys: range,
-            maximum: if row.maximum == 0 {
-                None
-            } else {
-                Some(row.maximum)
-            },
+            maximum: optional(row.maximum),
         });
     }
     Node::Leaf(LeafNode {

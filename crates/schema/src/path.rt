@@ -13,32 +13,19 @@ use crate::typed::Schema;
 use fault::Report;
 
 // A node and the keys of the lists around or at it, outermost first, 0 for none.
-#[derive(Clone, Copy)]
+#[derive(Clone, Copy, PartialEq, Eq, PartialOrd, Ord, Debug)]
 pub struct Path {
     pub node: u8,
     pub k1: u32,
     pub k2: u32,
 }
 
-impl PartialEq for Path {
-    ghost eq = { same_path };
-
-    ghost laws = { Prim.search (comparing, rules) };
-
-    fn eq(&self, other: &Path) -> bool
-        ensures computes { result ≡ same_path self.now other.now }
-        ensures decides { Decides result (self.now ≡ other.now) }
-    {
-        self.node == other.node && self.k1 == other.k1 && self.k2 == other.k2
-    }
-}
-
-// Why a path or its value is refused.
-#[derive(Clone, Copy)]
+// Why a path or its value is refused, with the refusal's number.
+#[derive(Clone, Copy, PartialEq, Eq, Debug)]
 pub enum PathFault {
-    Node,
-    Keys,
-    Value,
+    Node = 7,
+    Keys = 8,
+    Value = 9,
 }
 
 const NONE: Range = Range { lo: 0, hi: 0 };
@@ -69,7 +56,7 @@ impl Schema {
     pub fn node(&self, number: u8) -> Option<Node>
         ensures { result ≡ at (nodes self.now) number }
     {
-        numbered(&self.nodes[0..self.count], u32::from(number))
+        numbered(self.nodes.as_slice(), u32::from(number))
     }
 
     // The range of the key of the list of this number.
@@ -134,9 +121,7 @@ impl Schema {
     pub fn check_path(&self, path: Path) -> Result<Node, PathFault>
         ensures { result ≡ path_answer (nodes self.now) path }
     {
-        let Some(node) = self.node(path.node) else {
-            return Err(PathFault::Node);
-        };
+        let node = self.node(path.node).ok_or(PathFault::Node)?;
         let (first, second) = self.key_ranges(node);
         if first.has(path.k1) && second.has(path.k2) {
             Ok(node)
@@ -159,15 +144,10 @@ impl Schema {
 }
 
 impl PathFault {
-    // Refusal 7, 8 or 9, at this path.
+    // Refusal 7, 8 or 9, at this path. A method and not `From`, as it takes the path; the other reports have its name.
     pub fn report(self, path: Path) -> Report
         ensures { result ≡ at_path (plain (fault_number self)) path.node path.k1 path.k2 }
     {
-        let number = match self {
-            PathFault::Node => 7,
-            PathFault::Keys => 8,
-            PathFault::Value => 9,
-        };
-        Report::plain(number).at_path(u32::from(path.node), path.k1, path.k2)
+        Report::plain(self as u32).at_path(u32::from(path.node), path.k1, path.k2)
     }
 }

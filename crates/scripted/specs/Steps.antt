@@ -1,5 +1,6 @@
 -- What the two devices do. Assumes nothing.
 use Rattle.std.specs.Prelude.{◌≡◌, ℕ, true, false, List, drop, Err, vec_items, Result, slice_index_or, slice_set}
+use Rattle.std.specs.Vec.Iter.{into_iter_items}
 use Rattle.device.specs.Reach.{UnlessRefused}
 use Rattle.device.specs.declared.Block.{Block}
 use Rattle.device.specs.declared.Block.TheVariants.{Damaged}
@@ -15,7 +16,7 @@ scripted_blocks d = vec_items d.blocks
 
 -- the outcomes that no access has taken yet
 abbrev pub script_left : Scripted → List Outcome
-script_left d = drop d.next (vec_items d.script)
+script_left d = into_iter_items d.script
 
 pub record ScriptedRaises (d e : Scripted) : Type 0 where
   pub blocks : e.blocks ≡ d.blocks

@@ -11,6 +11,7 @@ mod losing;
 
 use device::{Block, Device, DeviceFault};
 pub use losing::Doomed;
+use std::vec::IntoIter;
 
 // What becomes of an access: it is done, or power is lost at it. A write that loses power leaves its block as it was, good
 // with the new bytes, or damaged; for a read these three are the same.
@@ -26,10 +27,7 @@ impl Outcome {
     fn done(self) -> bool
         ensures { result ≡ is_done self }
     {
-        match self {
-            Outcome::Done => true,
-            Outcome::LostBefore | Outcome::LostWritten | Outcome::LostTorn => false,
-        }
+        matches!(self, Outcome::Done)
     }
 
     // What a write of `bytes` leaves of the block `old`.
@@ -48,8 +46,7 @@ impl Outcome {
 #[derive(Drop)]
 pub struct Scripted {
     blocks: Vec<Block>,
-    script: Vec<Outcome>,
-    next: usize,
+    script: IntoIter<Outcome>,
     on: bool,
 }
 
@@ -62,8 +59,7 @@ impl Scripted {
     {
         Scripted {
             blocks,
-            script,
-            next: 0,
+            script: script.into_iter(),
             on: false,
         }
     }
@@ -80,12 +76,7 @@ impl Scripted {
         ensures script { script_left self.new ≡ drop 1 (script_left self.old) }
         ensures blocks { self.new.blocks ≡ self.old.blocks }
     {
-        if self.next >= self.script.len() {
-            return Outcome::Done;
-        }
-        let outcome = self.script[self.next];
-        self.next += 1;
-        outcome
+        self.script.next().unwrap_or(Outcome::Done)
     }
 }
 
@@ -123,9 +114,7 @@ impl Device for Scripted {
     }
 
     fn read(&mut self, at: usize) -> Result<Block, DeviceFault> {
-        if !self.on || at >= self.block_count() {
-            return Err(DeviceFault::Refused);
-        }
+        self.admit(at)?;
         self.on = self.next_outcome().done();
         if self.on {
             Ok(self.blocks[at])
@@ -135,9 +124,7 @@ impl Device for Scripted {
     }
 
     fn write(&mut self, at: usize, bytes: [u8; 32]) -> Result<(), DeviceFault> {
-        if !self.on || at >= self.block_count() {
-            return Err(DeviceFault::Refused);
-        }
+        self.admit(at)?;
         let outcome = self.next_outcome();
         self.blocks[at] = outcome.leaves(self.blocks[at], bytes);
         self.on = outcome.done();

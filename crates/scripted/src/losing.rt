@@ -7,6 +7,7 @@ ghost use Rattle.std.proofs.Common.{rules};
 use device::{Block, Device, DeviceFault};
 
 // A device that loses power at every access that is not refused, and changes no block.
+// Not one generic type with Scripted, which is no plainer: no script here, and a write keeps the Vec itself, not its blocks alone.
 #[derive(Drop)]
 pub struct Doomed {
     blocks: Vec<Block>,
@@ -57,17 +58,13 @@ impl Device for Doomed {
     }
 
     fn read(&mut self, at: usize) -> Result<Block, DeviceFault> {
-        if !self.on || at >= self.block_count() {
-            return Err(DeviceFault::Refused);
-        }
+        self.admit(at)?;
         self.on = false;
         Err(DeviceFault::PowerLost { block: at })
     }
 
     fn write(&mut self, at: usize, _bytes: [u8; 32]) -> Result<(), DeviceFault> {
-        if !self.on || at >= self.block_count() {
-            return Err(DeviceFault::Refused);
-        }
+        self.admit(at)?;
         self.on = false;
         Err(DeviceFault::PowerLost { block: at })
     }

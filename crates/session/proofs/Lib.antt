@@ -1,2 +1,1 @@
-mod Closes
 mod Runs

@@ -1,11 +1,11 @@
 // What happens to the trial.
-ghost use Rattle.session.specs.Meaning.{event_of, trial_of};
+ghost use Rattle.session.specs.Meaning.{event_of, pending, trial_of};
 ghost use Rattle.session.specs.Numbers.{number_of};
-ghost use Rattle.session.specs.Trials.{elapsed, is_pending, left_by, outcome_of, started, trial_after};
-ghost use Rattle.std.specs.Prelude.{◌≡◌, if◌then◌else◌};
+ghost use Rattle.session.specs.Trials.{elapsed, idle, is_pending, left_by, outcome_of, started, trial_after};
+ghost use Rattle.std.specs.Prelude.{◌≡◌, if◌then◌else◌, Some};
 
 use crate::session::Session;
-use crate::trial::Trial;
+use crate::trial::{Trial, Waiting};
 
 // A confirmed commit: the session that makes it, its timeout in seconds and its persist number.
 #[derive(Clone, Copy)]
@@ -37,52 +37,56 @@ pub enum Outcome {
     Confirmed,
 }
 
-impl Trial {
-    // The record after a confirmed commit: set anew, or as it was if the timeout is not 1 to 86,400.
-    fn started(self, start: Start) -> Self
-        ensures { trial_of result ≡ started (trial_of self) (number_of start.owner) start.timeout start.persist }
+impl Start {
+    // The trial that a confirmed commit begins: none if the timeout is not 1 to 86,400.
+    fn begun(self) -> Option<Waiting>
+        ensures { pending result ≡ started idle (number_of self.owner) self.timeout self.persist }
     {
-        if start.timeout < 1 || start.timeout > 86_400 {
-            return self;
+        if !(1..=86_400).contains(&self.timeout) {
+            return None;
         }
-        Trial {
-            owner: Some(start.owner),
-            persist: start.persist,
-            seconds: start.timeout,
-        }
+        Some(Waiting {
+            owner: Some(self.owner),
+            persist: self.persist,
+            seconds: self.timeout,
+        })
     }
+}
 
-    // The record after so many seconds.
-    fn elapsed(self, passed: u32) -> Self
-        ensures { trial_of result ≡ elapsed (trial_of self) passed }
+impl Waiting {
+    // What is left of it after so many seconds.
+    fn elapsed(self, passed: u32) -> Option<Self>
+        ensures { pending result ≡ elapsed (pending (Some self)) passed }
     {
         if passed >= self.seconds {
-            return Trial::idle();
+            return None;
         }
-        Trial {
+        Some(Waiting {
             owner: self.owner,
             persist: self.persist,
             seconds: self.seconds - passed,
-        }
+        })
     }
 
-    // The record after a session was closed.
-    fn left_by(self, session: Session) -> Self
-        ensures { trial_of result ≡ left_by (trial_of self) (number_of session) }
+    // What is left of it after a session was closed.
+    fn left_by(self, session: Session) -> Option<Self>
+        ensures { pending result ≡ left_by (pending (Some self)) (number_of session) }
     {
-        if !self.is_owned_by(session) {
-            return self;
+        if self.owner != Some(session) {
+            return Some(self);
         }
         if self.persist == 0 {
-            return Trial::idle();
+            return None;
         }
-        Trial {
+        Some(Waiting {
             owner: None,
             persist: self.persist,
             seconds: self.seconds,
-        }
+        })
     }
+}
 
+impl Trial {
     // What it means that a trial has come to this record by time or by a close.
     fn outcome(self) -> Outcome
         ensures { result ≡ (if is_pending (trial_of self) then Outcome.Nothing else Outcome.Reverted) }
@@ -100,20 +104,19 @@ impl Trial {
         ensures outcome { result ≡ outcome_of (trial_of self.old) (event_of event) }
     {
         let (after, outcome) = match (*self, event) {
-            (trial @ Trial { seconds: 0, .. }, Event::Started(start)) => (
-                trial.started(start),
+            (Trial(waiting), Event::Started(start)) => (
+                Trial(start.begun().or(waiting)),
                 Outcome::Nothing,
             ),
-            (trial @ Trial { seconds: 0, .. }, _) => (trial, Outcome::Nothing),
-            (trial, Event::Started(start)) => (trial.started(start), Outcome::Nothing),
+            (Trial(None), _) => (Trial::idle(), Outcome::Nothing),
             (_, Event::Confirmed) => (Trial::idle(), Outcome::Confirmed),
             (_, Event::Cancelled) => (Trial::idle(), Outcome::Reverted),
-            (trial, Event::Elapsed(passed)) => {
-                let left = trial.elapsed(passed);
+            (Trial(Some(waiting)), Event::Elapsed(passed)) => {
+                let left = Trial(waiting.elapsed(passed));
                 (left, left.outcome())
             }
-            (trial, Event::Closed(session)) => {
-                let left = trial.left_by(session);
+            (Trial(Some(waiting)), Event::Closed(session)) => {
+                let left = Trial(waiting.left_by(session));
                 (left, left.outcome())
             }
         };

@@ -1,5 +1,13 @@
 // What follows from the contracts, in the subject's own words.
+ghost use Rattle.session.specs.Equal.{EqualByNumber};
 ghost use Rattle.session.specs.Laws.{Always, CloseTakesItsOwn, TrialsRunOut};
+
+use crate::session::Session;
+
+// law: two sessions are equal exactly if their numbers are.
+pub fn equal_by_number()
+    ensures { EqualByNumber ⟦<Session as PartialEq>⟧.eq }
+{}
 
 // law: every lock is held by an open session; a trial has 1 to 86,400 seconds left, and an owner or a persist number.
 pub fn always()

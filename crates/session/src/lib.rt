@@ -11,8 +11,8 @@ mod sessions;
 mod trial;
 
 pub use event::{Event, Outcome, Start};
-pub use laws::{always, close_takes_its_own, trials_run_out};
-pub use numbers::Datastore;
+pub use laws::{always, close_takes_its_own, equal_by_number, trials_run_out};
+pub use numbers::{Datastore, UnknownDatastore, UnknownSession};
 pub use session::Session;
 pub use sessions::Sessions;
 pub use trial::Trial;

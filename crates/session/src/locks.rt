@@ -1,8 +1,9 @@
 // How sessions are opened and closed, and what they lock.
-ghost use Rattle.session.specs.Locks.{closed, holder, holds, is_locked, is_open, locked, locked_elsewhere, nobody, opened, unlocked};
+ghost use Rattle.session.specs.Kept.{holder_open};
+ghost use Rattle.session.specs.Locks.{closed, holder, holds, is_locked, is_open, locked, locked_elsewhere, nobody, opened, unlocked, with_holder};
 ghost use Rattle.session.specs.Meaning.{held_of};
 ghost use Rattle.session.specs.Numbers.{datastore_number, number_of, who};
-ghost use Rattle.std.specs.Prelude.{◌≡◌, if◌then◌else◌, None, nat_eq};
+ghost use Rattle.std.specs.Prelude.{◌≡◌, if◌then◌else◌, None, true, nat_eq};
 
 use crate::numbers::Datastore;
 use crate::session::Session;
@@ -12,8 +13,7 @@ use crate::sessions::Sessions;
 fn without(held: Option<Session>, session: Session) -> Option<Session>
     ensures { result ≡ (if nat_eq (who held) (number_of session) then None else held) }
 {
-    let by = held?;
-    if by == session { None } else { held }
+    held.filter(|by| *by != session)
 }
 
 impl Sessions {
@@ -76,10 +76,7 @@ impl Sessions {
     pub fn holds(&self, session: Session, datastore: Datastore) -> bool
         ensures { result ≡ holds (held_of self.now) (number_of session) (datastore_number datastore) }
     {
-        match self.holder(datastore) {
-            Some(held) => held == session,
-            None => false,
-        }
+        self.holder(datastore) == Some(session)
     }
 
     // A session other than this one holds the lock of a datastore.
@@ -89,16 +86,23 @@ impl Sessions {
         self.is_locked(datastore) && !self.holds(session, datastore)
     }
 
+    // The lock of a datastore has this holder from now on.
+    fn set_holder(&mut self, datastore: Datastore, holder: Option<Session>)
+        requires { holder_open self.old.open holder ≡ true }
+        ensures { held_of self.new ≡ with_holder (held_of self.old) (datastore_number datastore) (who holder) }
+    {
+        match datastore {
+            Datastore::Running => self.running = holder,
+            Datastore::Candidate => self.candidate = holder,
+        }
+    }
+
     // An open session becomes the holder of a lock. For a session that is not open nothing changes.
     pub fn lock(&mut self, session: Session, datastore: Datastore)
         ensures { held_of self.new ≡ locked (held_of self.old) (number_of session) (datastore_number datastore) }
     {
-        if !self.is_open(session) {
-            return;
-        }
-        match datastore {
-            Datastore::Running => self.running = Some(session),
-            Datastore::Candidate => self.candidate = Some(session),
+        if self.is_open(session) {
+            self.set_holder(datastore, Some(session));
         }
     }
 
@@ -106,9 +110,8 @@ impl Sessions {
     pub fn unlock(&mut self, session: Session, datastore: Datastore)
         ensures { held_of self.new ≡ unlocked (held_of self.old) (number_of session) (datastore_number datastore) }
     {
-        match datastore {
-            Datastore::Running => self.running = without(self.running, session),
-            Datastore::Candidate => self.candidate = without(self.candidate, session),
+        if self.holds(session, datastore) {
+            self.set_holder(datastore, None);
         }
     }
 }

@@ -1,27 +1,36 @@
 // The numbers of sessions and of datastores.
-ghost use Rattle.std.specs.Prelude.{◌≡◌, ◌-◌, ◌<◌, is_some, Decides};
-ghost use Rattle.fault.specs.Codes.{StandsFor};
-ghost use Rattle.session.specs.Equal.{same_session};
+ghost use Rattle.std.specs.Prelude.{◌≡◌, ◌-◌, ◌<◌, is_ok};
+ghost use Rattle.fault.specs.Codes.{Named};
 ghost use Rattle.session.specs.Numbers.{datastore_number, is_datastore, is_session, number_of};
-ghost use Rattle.std.specs.Cmp.Rules.{comparing};
-ghost use Rattle.std.proofs.Common.{rules, arith};
 
 use crate::session::Session;
 
-impl Session {
-    // The session of this number.
-    pub fn from_number(number: u32) -> Option<Self>
-        ensures stands { StandsFor number_of number result }
-        ensures lawful { is_some result ≡ is_session number }
-    {
+// A number that is no session's.
+#[derive(Clone, Copy, PartialEq, Eq, Debug)]
+pub struct UnknownSession(pub u32);
+
+// A number that is no datastore's.
+#[derive(Clone, Copy, PartialEq, Eq, Debug)]
+pub struct UnknownDatastore(pub u32);
+
+// The session of this number.
+impl TryFrom<u32> for Session {
+    type Error = UnknownSession;
+
+    ghost try_from_gives = { λ n r. Named number_of (λ e. e.0) n r × (is_ok r ≡ is_session n) };
+
+    fn try_from(number: u32) -> Result<Self, UnknownSession> {
         match number {
-            1..=8 => Some(Session {
+            1..=8 => Ok(Session {
                 number: number as u8,
             }),
-            _ => None,
+            _ => Err(UnknownSession(number)),
         }
     }
+}
 
+impl Session {
+    // A method and no From, as of datastores.
     pub fn number(self) -> u32
         ensures { result ≡ number_of self }
     {
@@ -37,40 +46,30 @@ impl Session {
     }
 }
 
-// Sessions are equal if their numbers are.
-impl PartialEq for Session {
-    ghost eq = { same_session };
-
-    ghost laws = { first_of (Prim.search (comparing, rules), Prim.grind (arith, Self.row.coded.inj)) };
-
-    fn eq(&self, other: &Session) -> bool
-        ensures computes { result ≡ same_session self.now other.now }
-        ensures decides { Decides result (number_of self.now ≡ number_of other.now) }
-    {
-        self.number == other.number
-    }
-}
-
 // What a lock is held on.
-#[derive(Clone, Copy)]
+#[derive(Clone, Copy, PartialEq, Eq, Debug)]
 pub enum Datastore {
     Running = 1,
     Candidate = 2,
 }
 
-impl Datastore {
-    // The datastore of this number.
-    pub fn from_number(number: u32) -> Option<Self>
-        ensures stands { StandsFor datastore_number number result }
-        ensures lawful { is_some result ≡ is_datastore number }
-    {
+// The datastore of this number.
+impl TryFrom<u32> for Datastore {
+    type Error = UnknownDatastore;
+
+    ghost try_from_gives = { λ n r. Named datastore_number (λ e. e.0) n r × (is_ok r ≡ is_datastore n) };
+
+    fn try_from(number: u32) -> Result<Self, UnknownDatastore> {
         match number {
-            1 => Some(Datastore::Running),
-            2 => Some(Datastore::Candidate),
-            _ => None,
+            1 => Ok(Datastore::Running),
+            2 => Ok(Datastore::Candidate),
+            _ => Err(UnknownDatastore(number)),
         }
     }
+}
 
+impl Datastore {
+    // A method and no From, which is no plainer: the conversion is the cast alone.
     pub fn number(self) -> u32
         ensures { result ≡ datastore_number self }
     {

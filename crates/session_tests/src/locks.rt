@@ -1,16 +1,16 @@
 // Sessions and their locks, call by call.
 use super::given::{number, session};
-use session::{Datastore, Session, Sessions};
+use session::{Datastore, Session, Sessions, UnknownDatastore, UnknownSession};
 use std::process::Abort;
 use std::test::Fail;
 
 #[test]
 fn session_numbers(rt: HostRuntime) -> Result<(), Fail> {
-    for n in 1..9 {
+    for n in 1..=8 {
         assert_eq!(rt; session(n)?.number(), n);
     }
     for n in [0, 9, 257] {
-        assert!(rt; Session::from_number(n).is_none());
+        assert_eq!(rt; Session::try_from(n), Err(UnknownSession(n)));
     }
     let (one, eight) = (session(1)?, session(8)?);
     assert!(rt; one == one && one != eight);
@@ -19,20 +19,17 @@ fn session_numbers(rt: HostRuntime) -> Result<(), Fail> {
 
 #[test]
 fn datastore_numbers(rt: HostRuntime) -> Result<(), Fail> {
-    for n in 1..3 {
+    for n in 1..=2 {
         assert_eq!(rt; datastore(n)?.number(), n);
     }
     for n in [0, 3, 257] {
-        assert!(rt; Datastore::from_number(n).is_none());
+        assert_eq!(rt; Datastore::try_from(n), Err(UnknownDatastore(n)));
     }
     Ok(())
 }
 
 fn datastore(number: u32) -> Result<Datastore, Fail> {
-    match Datastore::from_number(number) {
-        Some(datastore) => Ok(datastore),
-        None => Err(Fail::new("no such datastore")),
-    }
+    Datastore::try_from(number).map_err(|_| Fail::new("no such datastore"))
 }
 
 // A call by its numbers: session, and datastore.
@@ -75,7 +72,7 @@ fn hold(
 ) -> Result<(), Fail> {
     assert_eq!(rt; number(sessions.holder(on)), held);
     assert_eq!(rt; sessions.is_locked(on), held > 0);
-    for n in 1..9 {
+    for n in 1..=8 {
         let by = session(n)?;
         let expected = (open.contains(&n), n == held, held > 0 && n != held);
         assert_eq!(rt; told(sessions, by, on), expected);
@@ -104,8 +101,7 @@ const CALLS: [Case; 15] = [
 #[test]
 fn calls(rt: HostRuntime) -> Result<(), Fail> {
     let mut sessions = Sessions::none();
-    for case in CALLS {
-        let (call, open, (running, candidate)) = case;
+    for (call, open, (running, candidate)) in CALLS {
         perform(&mut sessions, call)?;
         hold(&rt, &sessions, open, running, Datastore::Running)?;
         hold(&rt, &sessions, open, candidate, Datastore::Candidate)?;

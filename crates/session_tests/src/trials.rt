@@ -43,8 +43,7 @@ fn numbers(trial: &Trial) -> (u32, u32, u32) {
 // The trial after all these events.
 fn follow(rt: &impl Abort, cases: &[Case]) -> Result<Trial, Fail> {
     let mut trial = Trial::idle();
-    for case in cases {
-        let (step, outcome, expected) = *case;
+    for &(step, outcome, expected) in cases {
         assert_eq!(rt; trial.on(event(step)?), outcome);
         assert_eq!(rt; numbers(&trial), expected);
         assert_eq!(rt; trial.is_pending(), expected.2 > 0);
@@ -161,8 +160,7 @@ const HINDERED: [(Step, (u32, u32), (bool, bool, bool)); 8] = [
 
 #[test]
 fn hindered(rt: HostRuntime) -> Result<(), Fail> {
-    for case in HINDERED {
-        let (step, (by, given), expected) = case;
+    for (step, (by, given), expected) in HINDERED {
         let mut trial = Trial::idle();
         assert_eq!(rt; trial.on(event(step)?), Outcome::Nothing);
         let by = session(by)?;

@@ -16,11 +16,9 @@ fn show_option(
     schema: &Schema,
     before: Config,
     list: &EditList,
-    number: u32,
+    option: ErrorOption,
 ) -> anyhow::Result<()> {
-    let Some(option) = ErrorOption::from_number(number) else {
-        return Ok(());
-    };
+    let number = option as u32;
     let mut config = before;
     match edit(schema, &mut config, list, option) {
         Ok(()) => println!(rt; "edit with option {number}: ok")?,
@@ -38,8 +36,12 @@ fn show_option(
 pub(crate) fn show_edits(rt: &impl Print, schema: &Schema, config: Config) -> anyhow::Result<()> {
     match EditList::read(&LIST) {
         Ok(list) => {
-            for number in 1..4 {
-                show_option(rt, schema, config, &list, number)?;
+            for option in [
+                ErrorOption::Stop,
+                ErrorOption::Continue,
+                ErrorOption::Rollback,
+            ] {
+                show_option(rt, schema, config, &list, option)?;
             }
         }
         Err(fault) => println!(rt; "edit list: no {}", fault.report())?,

@@ -12,6 +12,8 @@ use store::StoreFault;
 // More byte writes than there are here.
 const LASTING: u32 = 1_000_000;
 
+// The store's tests make devices too, of other sizes and cuts: a crate for these two makers would be no plainer.
+
 // An image of 51 blocks. Power lasts so many byte writes past those of a format, and so many after the next power-up.
 fn image(heap: Global, first: u32, second: u32) -> Result<Image, AllocError> {
     let cuts = [first.saturating_add(26 * 34), second].to_vec(heap)?;

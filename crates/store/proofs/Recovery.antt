@@ -1,5 +1,6 @@
 -- The parts of a recovery put together.
 use Rattle.std.proofs.Common.{◌≡◌, ℕ, ◌≤◌, Bool, List, [], ◌∷◌, ◌++◌, length, get_or, Some, None, Ok, Err, MatchBool, Option, Result, sym, refl, ap, ◌∙◌, subst, arith}
+use Rattle.std.specs.Option.{ok_or}
 use Rattle.std.proofs.lemmas.List.{append_assoc}
 use Rattle.std.proofs.lemmas.Bool.{le-ltb}
 use Rattle.device.specs.declared.Block.{Block}
@@ -42,13 +43,13 @@ module _ {D : Type 0} {reads : D → ℕ → Result Block DeviceFault → D → 
 
   -- ---- the records
   -- a record was not read
-  pub unread : (ts : List ℕ) (s : Result Pages ℕ) (q : Result Unit DeviceFault) (f : StoreFault) (rows : Pages) {plan : List Access} {d e : D} {r : Result Unit StoreFault} → RanTo s q (Err f) rows → Carried reads writes d plan q e → r ≡ Err f → Carried reads writes d (plan ++ mends (with_records ts s)) q e × EndedBy (with_records ts s) q r
+  unread : (ts : List ℕ) (s : Result Pages ℕ) (q : Result Unit DeviceFault) (f : StoreFault) (rows : Pages) {plan : List Access} {d e : D} {r : Result Unit StoreFault} → RanTo s q (Err f) rows → Carried reads writes d plan q e → r ≡ Err f → Carried reads writes d (plan ++ mends (with_records ts s)) q e × EndedBy (with_records ts s) q r
   unread ts s (Err h) f rows a c e = (carried_ends (mends (with_records ts s)) c, e ∙ a)
   unread ts (Ok ps) (Ok done) f rows a c e = absurd (let x = a.0 in let z : ◌≡◌ {A = ℕ} 0 1 = cc in omega arith)
   unread ts (Err k) (Ok done) f rows a c e = (then_none c, e ∙ a)
 
   -- all were, and the writes home follow
-  pub were_read : (ts : List ℕ) (s : Result Pages ℕ) (q : Result Unit DeviceFault) (rows : Pages) {plan : List Access} {d e e' : D} (q' : Result Unit DeviceFault) {r : Result Unit StoreFault} → RanTo s q (Ok tt) rows → Carried reads writes d plan q e → Carried reads writes e (as_writes (closed (paired ts rows))) q' e' → r ≡ told q' → Carried reads writes d (plan ++ mends (with_records ts s)) q' e' × EndedBy (with_records ts s) q' r
+  were_read : (ts : List ℕ) (s : Result Pages ℕ) (q : Result Unit DeviceFault) (rows : Pages) {plan : List Access} {d e e' : D} (q' : Result Unit DeviceFault) {r : Result Unit StoreFault} → RanTo s q (Ok tt) rows → Carried reads writes d plan q e → Carried reads writes e (as_writes (closed (paired ts rows))) q' e' → r ≡ told q' → Carried reads writes d (plan ++ mends (with_records ts s)) q' e' × EndedBy (with_records ts s) q' r
   were_read ts s (Err h) rows q' a c c' e = absurd (let z : ◌≡◌ {A = ℕ} 0 1 = cc in omega arith)
   were_read ts (Err k) (Ok done) rows q' a c c' e = absurd (let z : ◌≡◌ {A = ℕ} 0 1 = cc in omega arith)
   were_read ts (Ok ps) (Ok done) rows {plan} {d} {e = m} {e' = e'} q' a c c' e = (
@@ -59,6 +60,17 @@ module _ {D : Type 0} {reads : D → ℕ → Result Block DeviceFault → D → 
       ended : (x : Result Unit DeviceFault) {r : Result Unit StoreFault} → r ≡ told x → EndedBy (Ok (paired ts ps)) x r
       ended (Ok done') h = h
       ended (Err f) h = h
+
+module _ {D : Type 0} {blocks : D → List Block} {reads : D → ℕ → Result Block DeviceFault → D → Type 0} {writes : D → ℕ → List ℕ → Result Unit DeviceFault → D → Type 0} (ts : List ℕ) {rows rows' : Pages} (long : length rows ≡ length ts) {d e : D} {r : Result Unit StoreFault} where
+  pub redo_unread : (f : StoreFault) → Ran blocks reads writes d 1 rows (Err f) rows' e → r ≡ Err f → Redone blocks reads writes ts d r e
+  redo_unread f ran lost =
+      let p = unread ts (read_run (blocks d) 1 (length ts)) ran.ended f rows' (rw long at ran.answer) (rw long at ran.made) lost in
+      record { ended = ran.ended; carried = p.0; answer = p.1 }
+
+  pub redo_done : {m : D} (q : Result Unit DeviceFault) → Ran blocks reads writes d 1 rows (Ok tt) rows' m → Carried reads writes m (as_writes (closed (paired ts rows'))) q e → r ≡ told q → Redone blocks reads writes ts d r e
+  redo_done q ran made is =
+      let p = were_read ts (read_run (blocks d) 1 (length ts)) ran.ended rows' q {r = r} (rw long at ran.answer) (rw long at ran.made) made is in
+      record { ended = q; carried = p.0; answer = p.1 }
 
 -- ---- the header
 module _ {D : Type 0} (blocks : D → List Block) (reads : D → ℕ → Result Block DeviceFault → D → Type 0) (writes : D → ℕ → List ℕ → Result Unit DeviceFault → D → Type 0) (d e : D) (r : Result Unit StoreFault) where
@@ -134,8 +146,7 @@ judged_as ns bs s q e j = subst (λ (t : Result Pages ℕ). Judged ns t q) (sym 
 
 -- what is answered to the home blocks
 abbrev pub answered : Option Config → Result Config StoreFault
-answered (Some cf) = Ok cf
-answered None = Err (Corrupt 26)
+answered o = ok_or o (Corrupt 26)
 
 module _ {D : Type 0} (reads : D → ℕ → Result Block DeviceFault → D → Type 0) (writes : D → ℕ → List ℕ → Result Unit DeviceFault → D → Type 0) (ns : List Node) (bs : List Block) (d : D) where
   -- how a recovery ended, over the blocks that it found

@@ -2,6 +2,7 @@
 use Rattle.std.specs.Prelude.{◌≡◌, ℕ, Bool, List, length, Ok, Err, MatchBool, Result, nat_lt}
 use Rattle.device.specs.Accesses.{Access, Carried}
 use Rattle.device.specs.declared.Block.{Block}
+use Rattle.device.specs.declared.Device.{Ghosts}
 use Rattle.device.specs.declared.DeviceFault.{DeviceFault}
 use Rattle.schema.specs.declared.nodes.Node.{Node}
 use Rattle.config.specs.Configs.{used}
@@ -60,3 +61,14 @@ module _ {D : Type 0} (blocks : D → List Block) (raises : D → D → Type 0) 
 
   abbrev pub Recovered : List Node → D → Result Config StoreFault → D → Type 0
   Recovered ns d r e = UnlessSmall (blocks d) (Recovers ns d r e) r d e
+
+-- the same of a device, by the record of its members
+module _ {D : Type 0} (dev : Ghosts D) where
+  abbrev pub FormattedOn : D → List Entry → Result Unit StoreFault → D → Type 0
+  FormattedOn = Formatted dev.blocks dev.raises dev.reads dev.writes
+
+  abbrev pub ReplacedOn : D → List Entry → List Entry → Result Unit StoreFault → D → Type 0
+  ReplacedOn = Replaced dev.blocks dev.raises dev.reads dev.writes
+
+  abbrev pub RecoveredOn : List Node → D → Result Config StoreFault → D → Type 0
+  RecoveredOn = Recovered dev.blocks dev.raises dev.reads dev.writes

@@ -3,6 +3,7 @@ use Rattle.std.specs.Prelude.{◌≡◌, ℕ, List, [], ◌∷◌, ◌++◌, len
 use Rattle.device.specs.Accesses.{Access, read, Carried}
 use Rattle.device.specs.declared.Block.{Block}
 use Rattle.device.specs.declared.Block.TheVariants.{Damaged}
+use Rattle.device.specs.declared.Device.{Ghosts}
 use Rattle.device.specs.declared.DeviceFault.{DeviceFault}
 use Rattle.journal.specs.Plans.{Write, as_writes, closed}
 use Rattle.journal.specs.Restart.{pending, read_run, reads_until, record_reads, with_records}
@@ -32,3 +33,11 @@ module _ {D : Type 0} (blocks : D → List Block) (reads : D → ℕ → Result 
     pub ended : Result Unit DeviceFault
     pub carried : Carried reads writes d (read 0 ∷ (record_reads (blocks d) (slice_index_or (blocks d) 0 Damaged) ++ mends (pending (blocks d)))) ended e
     pub answer : EndedBy (pending (blocks d)) ended r
+
+-- the same of a device, by the record of its members
+module _ {D : Type 0} (dev : Ghosts D) where
+  abbrev pub RedoneOn : List ℕ → D → Result Unit StoreFault → D → Type 0
+  RedoneOn = Redone dev.blocks dev.reads dev.writes
+
+  abbrev pub MendedOn : D → Result Unit StoreFault → D → Type 0
+  MendedOn = Mended dev.blocks dev.reads dev.writes

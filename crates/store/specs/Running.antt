@@ -1,7 +1,8 @@
--- Consecutive blocks read into rows.
+-- Accesses of a device in a row, and consecutive blocks read into rows.
 use Rattle.std.specs.Prelude.{◌≡◌, ℕ, List, length, Ok, Err, Result}
-use Rattle.device.specs.Accesses.{Carried}
+use Rattle.device.specs.Accesses.{Access, Carried}
 use Rattle.device.specs.declared.Block.{Block}
+use Rattle.device.specs.declared.Device.{Ghosts}
 use Rattle.device.specs.declared.DeviceFault.{DeviceFault}
 use Rattle.journal.specs.Layout.{Pages}
 use Rattle.journal.specs.Restart.{read_run, reads_until}
@@ -19,3 +20,11 @@ module _ {D : Type 0} (blocks : D → List Block) (reads : D → ℕ → Result 
     pub ended : Result Unit DeviceFault
     pub made : Carried reads writes d (reads_until (blocks d) first (length rows)) ended e
     pub answer : RanTo (read_run (blocks d) first (length rows)) ended r rows'
+
+-- what is made of a device, by the record of its members
+module _ {D : Type 0} (dev : Ghosts D) where
+  abbrev pub CarriedOn : D → List Access → Result Unit DeviceFault → D → Type 0
+  CarriedOn = Carried dev.reads dev.writes
+
+  abbrev pub RanOn : D → ℕ → Pages → Result Unit StoreFault → Pages → D → Type 0
+  RanOn = Ran dev.blocks dev.reads dev.writes

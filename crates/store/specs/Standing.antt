@@ -1,6 +1,7 @@
 -- What the calls of the store make of what stands, on any device that keeps the power rule.
 use Rattle.std.specs.Prelude.{◌≡◌, ℕ, ◌≤◌, Bool, true, false, List, [], length, Ok, Err, Result, ◌≢◌}
 use Rattle.device.specs.declared.Block.{Block}
+use Rattle.device.specs.declared.Device.{Ghosts}
 use Rattle.device.specs.declared.DeviceFault.{DeviceFault}
 use Rattle.device.specs.declared.DeviceFault.TheVariants.{PowerLost, Refused}
 use Rattle.device.specs.View.{Executed, Torn}
@@ -53,3 +54,14 @@ module _ {D : Type 0} (blocks : D → List Block) (powered : D → Bool) (raises
     pub format : (d : D) (es : List Entry) (r : Result Unit StoreFault) (e : D) → 51 ≤ length (blocks d) → Formatted blocks raises reads writes d es r e → FormatOutcome es (blocks d) r (blocks e) (powered e)
     pub replace : (ns : List Node) (d : D) (old new : List Entry) (r : Result Unit StoreFault) (e : D) → Lawful ns old → Lawful ns new → Idle (blocks d) old → powered d ≡ true → Replaced blocks raises reads writes d old new r e → ReplaceOutcome ns old new r (blocks e) (powered e)
     pub recover : (ns : List Node) (d : D) (es : List Entry) (r : Result Config StoreFault) (e : D) → 51 ≤ length (blocks d) → Restores ns (blocks d) (Ok es) → Recovered blocks raises reads writes ns d r e → RecoverOutcome ns es r (blocks e) (powered e)
+
+-- the same of a device, by the record of its members
+module _ {D : Type 0} (dev : Ghosts D) where
+  abbrev pub BlocksAfterOn : Type 0
+  BlocksAfterOn = BlocksAfter dev.blocks dev.powered dev.raises dev.reads dev.writes
+
+  abbrev pub OffReplacesOn : Type 0
+  OffReplacesOn = OffReplaces dev.blocks dev.powered dev.raises dev.reads dev.writes
+
+  abbrev pub StandsOn : Type 0
+  StandsOn = Stands dev.blocks dev.powered dev.raises dev.reads dev.writes

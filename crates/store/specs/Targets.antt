@@ -1,11 +1,15 @@
 -- The home blocks that a commit changes.
-use Rattle.std.specs.Prelude.{ℕ, ◌-◌, List, [], map, take, slice_index_or}
+use Rattle.std.specs.Prelude.{ℕ, List}
+use Rattle.table.specs.Slots.{items}
+use Rattle.journal.specs.Plans.{Write}
+use Rattle.journal.specs.Restart.{paired}
+use Rattle.store.specs.declared.targets.Changes.{Changes}
 use Rattle.store.specs.declared.targets.Targets.{Targets}
 
 -- the targets in use
 abbrev pub listed : Targets → List ℕ
-listed t = take t.count t.blocks
+listed t = items t.blocks
 
--- the home blocks at some targets
-abbrev pub rows_at : List (List ℕ) → List ℕ → List (List ℕ)
-rows_at homes ts = map (λ (t : ℕ). slice_index_or homes (t - 26) []) ts
+-- each target with its bytes
+abbrev pub written : Changes → List Write
+written c = paired (listed c.targets) (items c.rows)

@@ -3,8 +3,8 @@ ghost use Rattle.schema.specs.Nodes.{nodes};
 ghost use Rattle.store.specs.Accepting.{Accepts, image_bytes};
 ghost use Rattle.std.specs.Prelude.{◌≡◌};
 
-use crate::changed::changed;
-use crate::pages::{HOMES, pages};
+use crate::layout::HOMES;
+use crate::pages::pages;
 use config::Config;
 use schema::Schema;
 
@@ -13,9 +13,7 @@ fn image_in(homes: &[[u8; 32]; HOMES]) -> [u8; 769]
     ensures { result ≡ image_bytes homes.now }
 {
     let mut image = [homes[0][1]; 769];
-    for j in 1..HOMES {
-        image[32 * j - 31..32 * j + 1].copy_from_slice(&homes[j]);
-    }
+    image[1..].copy_from_slice(homes[1..].as_flattened());
     image
 }
 
@@ -24,16 +22,7 @@ pub(crate) fn accept(schema: &Schema, homes: &[[u8; 32]; HOMES]) -> Option<Confi
     ensures { Accepts (nodes schema.now) homes.now result }
 {
     let image = image_in(homes);
-    let length = 1 + 16 * usize::from(image[0]);
-    if length > image.len() {
-        return None;
-    }
-    let Ok(config) = Config::read(schema, &image[0..length]) else {
-        return None;
-    };
-    if changed(&pages(&config), homes).count == 0 {
-        Some(config)
-    } else {
-        None
-    }
+    let entries = image.get(..1 + 16 * usize::from(image[0]))?;
+    let config = Config::read(schema, entries).ok()?;
+    (pages(&config) == *homes).then_some(config)
 }

@@ -1,13 +1,12 @@
 // Runs of accesses of any device, up to the first that is not done.
-ghost use Rattle.std.specs.Prelude.{◌+◌, ◌<◌, ◌≤◌, length};
-ghost use Rattle.device.specs.Accesses.{Carried};
+ghost use Rattle.std.specs.Prelude.{◌+◌, ◌≤◌, length};
 ghost use Rattle.journal.specs.Plans.{as_writes, closed, run_from};
-ghost use Rattle.journal.specs.Restart.{paired};
-ghost use Rattle.store.specs.Running.{Ran};
-ghost use Rattle.store.specs.Targets.{listed};
+ghost use Rattle.store.specs.Running.{CarriedOn, RanOn};
+ghost use Rattle.store.specs.Targets.{written};
 
 use crate::faults::StoreFault;
-use crate::targets::Targets;
+use crate::layout::HEADER;
+use crate::targets::Changes;
 use device::{Block, Device, DeviceFault};
 
 // A header that names nothing.
@@ -20,41 +19,34 @@ pub(crate) fn write_run<D: Device>(
     rows: &[[u8; 32]],
 ) -> Result<(), DeviceFault>
     requires few { first + length rows.now ≤ 51 }
-    ensures { Carried D.Device.reads D.Device.writes device.old (as_writes (run_from first rows.now)) result device.new }
+    ensures { CarriedOn D.Device device.old (as_writes (run_from first rows.now)) result device.new }
 {
-    for i in 0..rows.len() {
-        device.write(first + i, rows[i])?;
+    for (i, row) in rows.iter().enumerate() {
+        device.write(first + i, *row)?;
     }
     Ok(())
 }
 
-// Writes each target's row to it.
-fn write_home<D: Device>(
-    device: &mut D,
-    targets: &Targets,
-    rows: &[[u8; 32]],
-) -> Result<(), DeviceFault>
-    requires enough { length (listed targets.now) ≤ length rows.now }
-    ensures { Carried D.Device.reads D.Device.writes device.old (as_writes (paired (listed targets.now) rows.now)) result device.new }
+// Writes each target's bytes to it.
+fn write_home<D: Device>(device: &mut D, changes: &Changes) -> Result<(), DeviceFault>
+    ensures { CarriedOn D.Device device.old (as_writes (written changes.now)) result device.new }
 {
-    for i in 0..targets.count {
-        device.write(usize::from(targets.blocks[i]), rows[i])?;
+    let blocks = changes.targets.blocks.as_slice();
+    for (block, row) in blocks.iter().zip(changes.rows.as_slice()) {
+        device.write(usize::from(*block), *row)?;
     }
     Ok(())
 }
 
-// Writes each target's row to it, and then an empty header.
-pub(crate) fn complete<D: Device>(
-    device: &mut D,
-    targets: &Targets,
-    rows: &[[u8; 32]],
-) -> Result<(), DeviceFault>
-    requires some { 0 < length (listed targets.now) }
-    requires enough { length (listed targets.now) ≤ length rows.now }
-    ensures { Carried D.Device.reads D.Device.writes device.old (as_writes (closed (paired (listed targets.now) rows.now))) result device.new }
+// Writes each target's bytes to it, and then an empty header, or nothing where there is no target.
+pub(crate) fn complete<D: Device>(device: &mut D, changes: &Changes) -> Result<(), DeviceFault>
+    ensures { CarriedOn D.Device device.old (as_writes (closed (written changes.now))) result device.new }
 {
-    write_home(device, targets, rows)?;
-    device.write(0, EMPTY)
+    if changes.rows.as_slice().is_empty() {
+        return Ok(());
+    }
+    write_home(device, changes)?;
+    device.write(HEADER, EMPTY)
 }
 
 // Reads consecutive blocks into the rows, up to the first that is damaged.
@@ -64,11 +56,11 @@ pub(crate) fn read_run<D: Device>(
     rows: &mut [[u8; 32]],
 ) -> Result<(), StoreFault>
     requires few { first + length rows.old ≤ 51 }
-    ensures { Ran D.Device.blocks D.Device.reads D.Device.writes device.old first rows.old result rows.new device.new }
+    ensures { RanOn D.Device device.old first rows.old result rows.new device.new }
 {
-    for i in 0..rows.len() {
+    for (i, row) in rows.iter_mut().enumerate() {
         match device.read(first + i)? {
-            Block::Good(bytes) => rows[i] = bytes,
+            Block::Good(bytes) => *row = bytes,
             Block::Damaged => {
                 return Err(StoreFault::Corrupt {
                     block: (first + i) as u8,

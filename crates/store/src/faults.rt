@@ -7,7 +7,7 @@ use device::DeviceFault;
 use fault::Report;
 
 // The device has fewer than 51 blocks; an access of it was not done; or what it holds is at fault, which is told by the block.
-#[derive(Clone, Copy)]
+#[derive(Clone, Copy, PartialEq, Eq, Debug)]
 pub enum StoreFault {
     TooSmall,
     Device(DeviceFault),
@@ -24,7 +24,7 @@ impl From<DeviceFault> for StoreFault {
 }
 
 impl StoreFault {
-    // Refusal 35, the device's, or 37 with the block as its cause.
+    // Refusal 35, the device's, or 37 with the block as its cause. A method and no `From`, since a refused access has no report.
     pub fn report(self) -> Option<Report>
         ensures { result ≡ store_report self }
     {

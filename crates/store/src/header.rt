@@ -4,32 +4,33 @@ ghost use Rattle.std.specs.Option.{option_map};
 ghost use Rattle.store.specs.Targets.{listed};
 ghost use Rattle.std.specs.Prelude.{◌≡◌, take, drop};
 
-use crate::pages::HOMES;
+use crate::layout::{BLOCKS, FIRST_HOME, HOMES};
 use crate::targets::Targets;
+use table::Slots;
 
 // The count of the targets, the targets, and zeros.
 pub(crate) fn header(targets: &Targets) -> [u8; 32]
     ensures { result ≡ header_of (listed targets.now) }
 {
+    let blocks = targets.blocks.as_slice();
     let mut bytes = [0; 32];
-    bytes[0] = targets.count as u8;
-    for i in 0..targets.count {
-        bytes[i + 1] = targets.blocks[i];
-    }
+    bytes[0] = blocks.len() as u8;
+    bytes[1..1 + blocks.len()].copy_from_slice(blocks);
     bytes
 }
 
 // The blocks are home blocks in strictly rising order.
+// Tried as `is_sorted_by` and `all`: what their closures compute stayed open.
 fn rise(blocks: &[u8]) -> bool
     ensures { result ≡ rising 26 blocks.now }
 {
-    let mut least = 26;
-    for i in 0..blocks.len() {
-        let block = blocks[i];
-        if block < least || block > 50 {
+    let mut least = FIRST_HOME;
+    for block in blocks {
+        let at = usize::from(*block);
+        if at < least || at >= BLOCKS {
             return false;
         }
-        least = block + 1;
+        least = at + 1;
     }
     true
 }
@@ -47,18 +48,10 @@ fn target_bytes(bytes: &[u8; 32]) -> [u8; HOMES]
 pub(crate) fn parse_header(bytes: &[u8; 32]) -> Option<Targets>
     ensures { option_map listed result ≡ parse bytes.now }
 {
-    let count = usize::from(bytes[0]);
-    if count > HOMES {
+    let blocks = Slots::first(target_bytes(bytes), usize::from(bytes[0]));
+    if !rise(blocks.as_slice()) {
         return None;
     }
-    let blocks = target_bytes(bytes);
-    if !rise(&blocks[0..count]) {
-        return None;
-    }
-    let targets = Targets { blocks, count };
-    if header(&targets) == *bytes {
-        Some(targets)
-    } else {
-        None
-    }
+    let targets = Targets { blocks };
+    (header(&targets) == *bytes).then_some(targets)
 }

@@ -11,6 +11,7 @@ mod changed;
 mod faults;
 mod header;
 mod laws;
+mod layout;
 mod pages;
 mod targets;
 

@@ -1,22 +1,11 @@
 // The home blocks of a configuration.
-ghost use Rattle.std.specs.Prelude.{◌≡◌, ◌+◌, ◌-◌, ◌*◌, ◌≤◌, ◌∷◌, ◌++◌, length, take, drop};
+ghost use Rattle.std.specs.Prelude.{◌≡◌, ◌-◌, ◌*◌, ◌∷◌, ◌++◌, length};
 ghost use Rattle.config.specs.Configs.{used};
 ghost use Rattle.config.specs.Images.{image};
 ghost use Rattle.journal.specs.Layout.{home_pages, zeros};
 
+use crate::layout::HOMES;
 use config::Config;
-
-pub(crate) const HOMES: usize = 25;
-
-// The 32 bytes from a place on.
-pub(crate) fn block_at(bytes: &[u8], at: usize) -> [u8; 32]
-    requires { at + 32 ≤ length bytes.now }
-    ensures { result ≡ take 32 (drop at bytes.now) }
-{
-    let mut block = [0; 32];
-    block.copy_from_slice(&bytes[at..at + 32]);
-    block
-}
 
 // The image of a configuration, and zeros after it.
 fn image_of(config: &Config) -> [u8; 769]
@@ -42,9 +31,8 @@ pub(crate) fn pages(config: &Config) -> [[u8; 32]; HOMES]
     ensures { result ≡ home_pages (used config.now) }
 {
     let bytes = image_of(config);
+    let (entries, _) = bytes[1..].as_chunks::<32>();
     let mut pages = [first_page(bytes[0]); HOMES];
-    for j in 1..HOMES {
-        pages[j] = block_at(&bytes, 32 * j - 31);
-    }
+    pages[1..].copy_from_slice(entries);
     pages
 }

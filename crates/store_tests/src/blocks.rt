@@ -12,23 +12,24 @@ const ENTRIES: [u8; 32] = [
 ];
 
 // These bytes, and zeros after them.
-pub(crate) fn page(front: &[u8]) -> Block {
+fn padded(front: &[u8]) -> [u8; 32] {
     let mut bytes = [0; 32];
-    for i in 0..front.len() {
-        if i < 32 {
-            bytes[i] = front[i];
-        }
-    }
-    Block::Good(bytes)
+    let count = front.len().min(32);
+    bytes[..count].copy_from_slice(&front[..count]);
+    bytes
+}
+
+// A block of these bytes, and zeros after them.
+pub(crate) fn page(front: &[u8]) -> Block {
+    Block::Good(padded(front))
 }
 
 // Home block 27 with other bytes at some places.
 pub(crate) fn entries_but(changes: &[(usize, u8)]) -> Block {
     let mut bytes = ENTRIES;
-    for i in 0..changes.len() {
-        let (at, byte) = changes[i];
-        if at < 32 {
-            bytes[at] = byte;
+    for (at, byte) in changes {
+        if let Some(place) = bytes.get_mut(*at) {
+            *place = *byte;
         }
     }
     Block::Good(bytes)
@@ -36,25 +37,21 @@ pub(crate) fn entries_but(changes: &[(usize, u8)]) -> Block {
 
 // These bytes, zeros after them, and 1 as the last byte.
 pub(crate) fn last_byte(front: &[u8]) -> Block {
-    match page(front) {
-        Block::Good(mut bytes) => {
-            bytes[31] = 1;
-            Block::Good(bytes)
-        }
-        Block::Damaged => Block::Damaged,
-    }
+    let mut bytes = padded(front);
+    bytes[31] = 1;
+    Block::Good(bytes)
 }
 
 pub(crate) fn put(blocks: &mut Vec<Block>, at: usize, block: Block) {
-    if at < blocks.len() {
-        blocks[at] = block;
+    if let Some(place) = blocks.get_mut(at) {
+        *place = block;
     }
 }
 
 // The same block in some places.
 pub(crate) fn fill(blocks: &mut Vec<Block>, from: usize, end: usize, block: Block) {
-    for at in from..end {
-        put(blocks, at, block);
+    for place in blocks.iter_mut().take(end).skip(from) {
+        *place = block;
     }
 }
 

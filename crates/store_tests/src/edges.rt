@@ -1,9 +1,10 @@
 // Formats that power cuts; devices that are too small, off, or only lose power; and replacements of a configuration by itself.
 use crate::blocks::{by_the_rules, formatted};
+use crate::kinds;
 use crate::kinds::Side;
 use crate::pairs::Pair;
 use crate::show::word;
-use crate::trial::lost_at;
+use crate::trial::{lost_at, refusal};
 use config::Config;
 use device::{Block, Device};
 use fault::Report;
@@ -17,27 +18,19 @@ use store::{StoreFault, format, recover, replace};
 
 // An image of so many blocks and 33 bytes more.
 fn image(heap: Global, blocks: u8, cut: u32) -> Result<Image, AllocError> {
-    let bytes = vec![in heap; 0; 34 * usize::from(blocks) + 33]?;
-    Ok(Image::new(bytes, [cut].to_vec(heap)?))
+    kinds::image(heap, 34 * usize::from(blocks) + 33, &[cut])
 }
 
 // A flash of so many blocks and 32 bytes more.
 fn flash(heap: Global, blocks: u8, cut: u32) -> Result<Flash, AllocError> {
-    let bytes = vec![in heap; 255; 33 * usize::from(blocks) + 32]?;
-    Ok(Flash::new(bytes, [cut].to_vec(heap)?))
+    kinds::flash(heap, 33 * usize::from(blocks) + 32, &[cut])
 }
 
 // A format that is cut tells this block; formatted again, the device gives the configuration.
 fn format_again<D: Device>(device: &mut D, schema: &Schema, pair: &Pair, block: u32) -> bool {
-    let first = match format(device, &pair.old) {
-        Ok(()) => None,
-        Err(fault) => fault.report(),
-    };
+    let first = refusal(format(device, &pair.old));
     let second = format(device, &pair.new).is_ok();
-    let seen = match recover(device, schema) {
-        Ok(config) => config == pair.new,
-        Err(_) => false,
-    };
+    let seen = recover(device, schema) == Ok(pair.new);
     first == lost_at(block) && second && seen
 }
 

@@ -1,6 +1,7 @@
 // What a recovery says of blocks that are at fault, and what it leaves of them.
 use crate::blocks::{by_the_rules, entries_but, fill, last_byte, page, put};
 use crate::show::word;
+use crate::trial::refusal;
 use config::Config;
 use device::Block;
 use fault::Report;
@@ -74,10 +75,8 @@ fn home(
 fn targets(count: u8, first: u8) -> Block {
     let mut front = [0; 32];
     front[0] = count;
-    for i in 1..32 {
-        if i <= usize::from(count) {
-            front[i] = first.wrapping_add(i as u8 - 1);
-        }
+    for (target, i) in front[1..].iter_mut().zip(0..count) {
+        *target = first.wrapping_add(i);
     }
     Block::Good(front)
 }
@@ -172,14 +171,10 @@ fn told(
 ) -> anyhow::Result<bool> {
     let before = blocks.as_slice().to_vec(rt.alloc())?;
     let mut device = Scripted::new(blocks, Vec::new(rt.alloc()));
-    let report = match recover(&mut device, schema) {
-        Ok(_) => None,
-        Err(fault) => fault.report(),
-    };
-    let expected = match u32::try_from(cause) {
-        Ok(block) => Some(Report::plain(37).because(block)),
-        Err(_) => None,
-    };
+    let report = refusal(recover(&mut device, schema));
+    let expected = u32::try_from(cause)
+        .ok()
+        .map(|block| Report::plain(37).because(block));
     Ok(report == expected && device.blocks() == before.as_slice())
 }
 

@@ -11,16 +11,24 @@ use std::alloc::{AllocError, Global};
 // More byte writes than any trial has.
 const LASTING: u32 = 1_000_000;
 
+// An image of so many bytes, each power-up of which lasts so many byte writes.
+pub(crate) fn image(heap: Global, bytes: usize, cuts: &[u32]) -> Result<Image, AllocError> {
+    Ok(Image::new(vec![in heap; 0; bytes]?, cuts.to_vec(heap)?))
+}
+
+// The same of an erased flash.
+pub(crate) fn flash(heap: Global, bytes: usize, cuts: &[u32]) -> Result<Flash, AllocError> {
+    Ok(Flash::new(vec![in heap; 255; bytes]?, cuts.to_vec(heap)?))
+}
+
 // An image of 51 blocks. Its first power-up lasts so many byte writes past those of a format, its second so many.
-fn image(heap: Global, first: u32, second: u32) -> Result<Image, AllocError> {
-    let cuts = [first.saturating_add(26 * 34), second].to_vec(heap)?;
-    Ok(Image::new(vec![in heap; 0; 51 * 34]?, cuts))
+fn image_past(heap: Global, first: u32, second: u32) -> Result<Image, AllocError> {
+    image(heap, 51 * 34, &Side::Image.past_format(first, second))
 }
 
 // The same of a flash.
-fn flash(heap: Global, first: u32, second: u32) -> Result<Flash, AllocError> {
-    let cuts = [first.saturating_add(26 * 66), second].to_vec(heap)?;
-    Ok(Flash::new(vec![in heap; 255; 51 * 33]?, cuts))
+fn flash_past(heap: Global, first: u32, second: u32) -> Result<Flash, AllocError> {
+    flash(heap, 51 * 33, &Side::Flash.past_format(first, second))
 }
 
 // A device that fails at a byte write, or the side of a mirror that does.
@@ -37,6 +45,14 @@ impl Side {
             Side::Image => 34,
             Side::Flash => 66,
         }
+    }
+
+    // So many byte writes past those of a format, and then so many.
+    fn past_format(self, first: u32, second: u32) -> [u32; 2] {
+        [
+            first.saturating_add(self.width().saturating_mul(26)),
+            second,
+        ]
     }
 }
 
@@ -104,10 +120,10 @@ impl Kind {
             Side::Flash => (LASTING, q),
         };
         Ok(match self {
-            Kind::One(Side::Image) => try_pair(&mut image(heap, p, q)?, schema, pair),
-            Kind::One(Side::Flash) => try_pair(&mut flash(heap, p, q)?, schema, pair),
+            Kind::One(Side::Image) => try_pair(&mut image_past(heap, p, q)?, schema, pair),
+            Kind::One(Side::Flash) => try_pair(&mut flash_past(heap, p, q)?, schema, pair),
             Kind::Mirror(_, _) => {
-                let mut mirror = Mirror::new(image(heap, a, c)?, flash(heap, b, d)?);
+                let mut mirror = Mirror::new(image_past(heap, a, c)?, flash_past(heap, b, d)?);
                 try_pair(&mut mirror, schema, pair)
             }
         })

@@ -2,7 +2,8 @@
 use config::{Config, Entry};
 use schema::{NodeRow, Path, Schema, SchemaFault};
 
-// A list of interfaces with keys 1 to 9, and the MTU of an interface, 64 to 1500.
+// A list of interfaces with keys 1 to 9, and the MTU of an interface, 64 to 1500. Not the branch switch of the programs: no leaf
+// has to be there.
 pub(crate) fn schema() -> Result<Schema, SchemaFault> {
     let list = NodeRow {
         kind: 1,
@@ -28,15 +29,15 @@ pub(crate) fn schema() -> Result<Schema, SchemaFault> {
 // The entries of these nodes, keys and values.
 pub(crate) fn config_of(entries: &[(u8, u32, u32)]) -> Config {
     let mut config = Config::empty();
-    for i in 0..entries.len() {
-        let (node, k1, value) = entries[i];
+    for (node, k1, value) in entries.iter().copied() {
         let path = Path { node, k1, k2: 0 };
         let _ = config.put(Entry { path, value });
     }
     config
 }
 
-// Two configurations, and the home blocks in which they differ.
+// Two configurations, and the home blocks in which they differ: the first `changed` of three. The count is a byte of its own, so
+// that sums of it need no bound, which is plainer than the length of a slice.
 #[derive(Clone, Copy)]
 pub(crate) struct Pair {
     pub(crate) old: Config,
@@ -53,10 +54,7 @@ impl Pair {
 
     // The home block of this place among those that differ.
     pub(crate) fn target(&self, place: u32) -> u32 {
-        match self.targets.get(place as usize) {
-            Some(block) => *block,
-            None => 0,
-        }
+        self.targets.get(place as usize).copied().unwrap_or(0)
     }
 }
 

@@ -15,27 +15,22 @@ pub(crate) enum Seen {
 }
 
 // What the replacement answered, what the first recovery answered if it was cut, and what the last recovery gave.
-#[derive(Clone, Copy)]
+#[derive(Clone, Copy, PartialEq, Eq, Debug)]
 pub(crate) struct Trial {
     pub(crate) replaced: Option<Report>,
     pub(crate) recovered: Option<Report>,
     pub(crate) seen: Seen,
 }
 
-fn refusal<T: Drop>(answer: Result<T, StoreFault>) -> Option<Report> {
-    match answer {
-        Ok(_) => None,
-        Err(fault) => fault.report(),
-    }
+// The report of a fault, if there is one.
+pub(crate) fn refusal<T: Drop>(answer: Result<T, StoreFault>) -> Option<Report> {
+    answer.err().and_then(|fault| fault.report())
 }
 
 fn seen_in(pair: &Pair, recovered: Result<Config, StoreFault>) -> Seen {
-    let Ok(config) = recovered else {
-        return Seen::Other;
-    };
-    if config == pair.old {
+    if recovered == Ok(pair.old) {
         Seen::Old
-    } else if config == pair.new {
+    } else if recovered == Ok(pair.new) {
         Seen::New
     } else {
         Seen::Other
@@ -47,10 +42,8 @@ pub(crate) fn try_pair<D: Device>(device: &mut D, schema: &Schema, pair: &Pair) 
     let formatted = format(device, &pair.old).is_ok();
     let replaced = refusal(replace(device, &pair.old, &pair.new));
     let first = recover(device, schema);
-    let (recovered, last) = match first {
-        Err(fault) => (fault.report(), recover(device, schema)),
-        Ok(config) => (None, Ok(config)),
-    };
+    let recovered = refusal(first);
+    let last = first.or_else(|_| recover(device, schema));
     let seen = if formatted {
         seen_in(pair, last)
     } else {
@@ -91,8 +84,7 @@ impl Tally {
     // Counts a trial that had to go so.
     pub(crate) fn note(&mut self, trial: Trial, expected: Trial) {
         self.cuts = self.cuts.saturating_add(1);
-        let same = trial.replaced == expected.replaced && trial.recovered == expected.recovered;
-        if !same || trial.seen != expected.seen {
+        if trial != expected {
             self.other = self.other.saturating_add(1);
         } else if expected.seen == Seen::New {
             self.new = self.new.saturating_add(1);

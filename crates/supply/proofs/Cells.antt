@@ -16,6 +16,15 @@ apart n j i h =
     h' : j + 1 ≤ i
     h' = omega arith
 
+-- where a block fits, its cell does
+pub fits_in : (n m i : ℕ) → 0 < n → i < m / n → n * i + n ≤ m
+fits_in n m i some h =
+    let k : n * (i + 1) ≤ n * (m / n) = mul-le-mul_left n h' in
+    omega (arith, k, mul-add n i 1)
+  where
+    h' : i + 1 ≤ m / n
+    h' = omega arith
+
 module _ (n : ℕ) (content : List ℕ → Block) where
   pub count_by : (bytes : List ℕ) → length (blocks_by n content bytes) ≡ length bytes / n
   count_by bytes = length-map-range_with_len (λ i. content (cell_of n bytes i)) 0 (length bytes / n)
@@ -54,7 +63,7 @@ module _ (n : ℕ) (bytes : List ℕ) (i : ℕ) (part : List ℕ) (room : n * i 
   pub cell_here : cell_of n (take (n * i) bytes ++ part) i ≡ take n part
   cell_here = ap (take n) (drop_at (take (n * i) bytes) part (n * i) before)
 
-  pub cell_elsewhere : (j : ℕ) → (j ≡ i → ⊥) → cell_of n (take (n * i) bytes ++ part) j ≡ cell_of n bytes j
+  cell_elsewhere : (j : ℕ) → (j ≡ i → ⊥) → cell_of n (take (n * i) bytes ++ part) j ≡ cell_of n bytes j
   cell_elsewhere j other =
       same_lists (cell_of n (take (n * i) bytes ++ part) j) (cell_of n bytes j)
       (simp (length-take, length-drop) (ap (λ (k : ℕ). min n (k - n * j)) length_spliced))

@@ -1,3 +1,4 @@
 pub mod Spending
 pub mod Cells
 pub mod Rule
+pub mod Writes

@@ -1,6 +1,6 @@
 -- From byte writes under a supply to the power rule. Assumes nothing.
-use Rattle.std.proofs.Common.{◌≡◌, ℕ, ◌-◌, ◌*◌, ◌/◌, ◌<◌, ◌≤◌, Bool, true, List, ◌++◌, length, get_or, take, drop, set, Ok, Err, Result, sym, ap, ◌∙◌, ⊎_elim, arith}
-use Rattle.std.proofs.lemmas.List.{take_rest, take_at}
+use Rattle.std.proofs.Common.{◌≡◌, ℕ, ◌-◌, ◌*◌, ◌/◌, ◌<◌, ◌≤◌, true, List, length, get_or, take, drop, set, Ok, Err, Result, sym, ap, ◌∙◌, ⊎_elim, arith}
+use Rattle.std.proofs.lemmas.List.{take_rest}
 use Rattle.std.proofs.lemmas.Bool.{eqb-true, eqb-false, cases_lt}
 use Rattle.device.specs.declared.Block.{Block}
 use Rattle.device.specs.declared.Block.TheVariants.{Good, Damaged}
@@ -9,7 +9,7 @@ use Rattle.device.specs.declared.DeviceFault.TheVariants.{Refused}
 use Rattle.device.specs.Power.{Left, WriteAnswer}
 use Rattle.device.proofs.Answers.{write_done, write_lost, left_before, left_torn}
 use Rattle.supply.specs.Budget.{is_on, left_of, allowed}
-use Rattle.supply.specs.Writing.{ByteWrites, BlockWrite, Tears}
+use Rattle.supply.specs.Writing.{BlockWrite, Tears}
 use Rattle.supply.specs.Cells.{blocks_by}
 use Rattle.supply.specs.declared.Supply.{Supply}
 use Rattle.supply.proofs.Spending.{allowed_le}
@@ -37,11 +37,3 @@ not_refused w = let e = w.answer in let z : ◌≡◌ {A = ℕ} 0 1 = cc in omeg
 -- a block is read from the part that starts with its cell
 pub block_at : (n : ℕ) (content : List ℕ → Block) (bytes : List ℕ) (i : ℕ) (r : Block) → i < length bytes / n → r ≡ content (take n (take (length bytes - n * i) (drop (n * i) bytes))) → r ≡ get_or (blocks_by n content bytes) i Damaged
 block_at n content bytes i r there e = e ∙ ap (λ (x : List ℕ). content (take n x)) (take_rest bytes (n * i)) ∙ sym (getD_blocks_by n content bytes i Damaged there)
-
--- a write to what a Vec holds is a write to the Vec's bytes: m is its length, and rest is what lies past that
-pub vec_writes : (n : ℕ) (after : List ℕ → ℕ → List ℕ) {x bytes y : List ℕ} {m : ℕ} {s : Supply} {r : Bool} {p : Supply} (rest : List ℕ) → x ≡ bytes → length y ≡ m → ByteWrites n (after x) s r y p → ByteWrites n (after bytes) s r (take m (y ++ rest)) p
-vec_writes n after {x} {bytes} {y} {m} {s} {r} {p} rest same long e =
-    record {
-      bytes = take_at y rest m long ∙ e.bytes ∙ ap (λ (b : List ℕ). after b (allowed (left_of s) n)) same;
-      spent = e.spent;
-    }

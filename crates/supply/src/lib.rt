@@ -1,10 +1,14 @@
 // Power that fails after a counted number of byte writes.
 #![tactic(auto)]
 
-ghost use Rattle.std.specs.Prelude.{◌≡◌, true, false, drop};
-ghost use Rattle.supply.specs.Budget.{is_on, cuts_of, first, Raised, Spent};
+ghost use Rattle.std.specs.Prelude.{◌≡◌, min, true, false, cond, length};
+ghost use Rattle.supply.specs.Budget.{is_on, cuts_of, Raised, Spent, Asked};
+ghost use Rattle.supply.specs.Writing.{Asks, written};
+
+use std::vec::IntoIter;
 
 // Power is off, or it is on and lasts for so many byte writes more; without a number it stays.
+// No Option of an Option, which is no plainer: the two states have names here.
 #[derive(Clone, Copy)]
 enum Power {
     Off,
@@ -14,8 +18,7 @@ enum Power {
 // Each power-up takes the next of the cut counts; once all are taken power stays.
 #[derive(Drop)]
 pub struct Supply {
-    cuts: Vec<u32>,
-    next: usize,
+    cuts: IntoIter<u32>,
     power: Power,
 }
 
@@ -26,8 +29,7 @@ impl Supply {
         ensures cuts { cuts_of result ≡ cuts.items }
     {
         Supply {
-            cuts,
-            next: 0,
+            cuts: cuts.into_iter(),
             power: Power::Off,
         }
     }
@@ -41,24 +43,11 @@ impl Supply {
         }
     }
 
-    // The next cut count, if one is left.
-    fn next_cut(&mut self) -> Option<u32>
-        ensures cut { result ≡ first (cuts_of self.old) }
-        ensures rest { cuts_of self.new ≡ drop 1 (cuts_of self.old) }
-    {
-        if self.next >= self.cuts.len() {
-            return None;
-        }
-        let cut = self.cuts[self.next];
-        self.next += 1;
-        Some(cut)
-    }
-
     // Power-up, under the next cut count if one is left.
     pub fn raise(&mut self)
         ensures { Raised self.old self.new }
     {
-        let left = self.next_cut();
+        let left = self.cuts.next();
         self.power = Power::On(left);
     }
 
@@ -79,5 +68,32 @@ impl Supply {
                 true
             }
         }
+    }
+
+    // One byte write to a slot: done where power lasts for it; else power is off afterwards and the slot is as it was.
+    pub fn write(&mut self, slot: &mut u8, byte: u8) -> bool
+        ensures slot { slot.new ≡ cond result byte slot.old }
+        ensures power { Asked 1 self.old result self.new }
+        ensures off { is_on self.old ≡ false → self.new ≡ self.old }
+    {
+        let done = self.spend();
+        if done {
+            *slot = byte;
+        }
+        done
+    }
+
+    // Writes some bytes, as many as fit, over the front of `part`, in order and until power fails.
+    pub fn write_all(&mut self, part: &mut [u8], bytes: &[u8]) -> bool
+        ensures { Asks (min (length bytes.now) (length part.old)) (λ k. written k bytes.now part.old) self.old result part.new self.new }
+    {
+        let fitting = &bytes[..bytes.len().min(part.len())];
+        // Tried with a zip: of the slice behind a zipped `iter_mut` it stayed open what it is in the end.
+        for (i, byte) in fitting.iter().enumerate() {
+            if !self.write(&mut part[i], *byte) {
+                return false;
+            }
+        }
+        true
     }
 }

@@ -29,7 +29,7 @@ module _ {X : Type 0} where
   none_since (Some x) h = absurd (false≢true h)
 
   some_never : (x : X) → Some x ≡ None → ⊥
-  some_never x e = let z : ◌≡◌ {A = ℕ} 0 1 = cc in omega arith
+  some_never x e = cc
 
 -- the node of a number is one of the nodes
 pub numbered : (ns : List Node) (n : ℕ) (x : Node) → at ns n ≡ Some x → (1 ≤ n) × (n ≤ length ns)

@@ -1,17 +1,13 @@
--- Required values: their order, and which of them is told.
-use Rattle.std.proofs.Common.{◌≡◌, ℕ, zero, suc, ◌+◌, ◌<◌, ◌≤◌, true, cond, ◌&&◌, leb, List, [], ◌∷◌, ◌++◌, length, get_or, take, drop, Ok, Err, sym, refl, ap, ◌∙◌, subst, not-suc-le-zero, arith}
-use Rattle.std.proofs.lemmas.List.{get_or-take, length-take, length-take-le, take_all, take_more, drop_all, get_or_default, at_drop_more, at_drop_all}
-use Rattle.std.proofs.lemmas.Bool.{and_parts, and_from, leb-true, le-leb}
-use Rattle.table.specs.Table.{Rising, Lesser, with_row}
-use Rattle.table.proofs.Rows.{rising_cons, rising_head, rising_tail, greater_cons, greater_far, with_new}
+-- Required values: their order, and the test of it.
+use Rattle.std.proofs.Common.{◌≡◌, ℕ, zero, suc, ◌+◌, ◌<◌, ◌≤◌, Bool, true, false, ◌&&◌, leb, List, [], ◌∷◌, length, get_or, sym, refl, ap, ◌∙◌, subst, not-suc-le-zero, arith}
+use Rattle.std.proofs.lemmas.Bool.{and_parts, and_from, and_left, and_right, leb-true, le-leb}
+use Rattle.std.specs.List.{list_all, AllAdjacentBelow, IsAllAdjacentAnswer}
+use Rattle.table.specs.Table.{Rising}
+use Rattle.table.proofs.Rows.{rising_cons, rising_head, rising_tail, greater_cons, greater_far}
 use Rattle.config.specs.Order.{path_sooner}
 use Rattle.config.proofs.Order.{total}
-use Rattle.config.specs.declared.entry.Entry.{Entry}
-use Rattle.validate.specs.declared.broken.Rule.TheVariants.{ValueRequired}
 use Rattle.validate.specs.declared.bound.Bound.{Bound}
-use Rattle.validate.specs.declared.required.Required.{Required}
-use Rattle.validate.specs.Bounds.{bound_path, before_next, bounds_lawful, first_unmet, met, Listed}
-use Rattle.validate.specs.Required.{bounds}
+use Rattle.validate.specs.Bounds.{bound_path, before_next, bounds_lawful, Listed}
 
 parts : (b : Bound) (rest : List Bound) → bounds_lawful (b ∷ rest) ≡ true → (leb b.values.lo b.values.hi ≡ true) × (before_next b rest ≡ true) × (bounds_lawful rest ≡ true)
 parts b rest h =
@@ -21,7 +17,7 @@ parts b rest h =
 
 pub rises : (bs : List Bound) → bounds_lawful bs ≡ true → Rising bound_path path_sooner bs
 rises [] h = record { climbs = λ i j d lt l. absurd (not-suc-le-zero l) }
-rises (b ∷ []) h = record { climbs = λ i j d lt l. let no_room : ⊥ = omega arith in absurd no_room }
+rises (b ∷ []) h = record { climbs = λ i j d lt l. absurd (omega arith) }
 rises (b ∷ (c ∷ rest)) h =
     let p = parts b (c ∷ rest) h in
     let up = rises (c ∷ rest) p.2 in
@@ -47,73 +43,49 @@ lawful_from (b ∷ rest) up each =
 pub listed : (bs : List Bound) → length bs ≤ 8 → bounds_lawful bs ≡ true → Listed bs
 listed bs few h = record { few = few; rises = rises bs h; ranges = ranges bs h }
 
--- one more record at the end
-pub with_last : (bs : List Bound) (i : ℕ) (d : Bound) → Rising bound_path path_sooner bs → i < length bs → with_row bound_path path_sooner (take i bs) (get_or bs i d) ≡ take (i + 1) bs
-with_last bs i d up l =
-    let front = take i bs in
-    let b = get_or bs i d in
-    let n : length front ≡ i = length-take-le i bs (omega arith) in
-    let whole : length front ≤ i = omega arith in
-    let lesser : Lesser bound_path path_sooner front b.path i =
-    λ k e lt. subst (λ x. path_sooner (bound_path x) b.path ≡ true) (sym (get_or-take i bs k e lt))
-    (subst (λ x. path_sooner (bound_path (get_or bs k e)) (bound_path x) ≡ true) (get_or_default bs i e d l) (up.climbs k i e lt l)) in
-    with_new bound_path path_sooner total front i b (omega arith) lesser (λ k e le lt. let no_room : ⊥ = omega arith in absurd no_room)
-    ∙ ap (λ l. l ++ b ∷ drop i front) (take_all i front whole)
-    ∙ ap (λ l. front ++ b ∷ l) (drop_all i front whole)
-    ∙ sym (take_more bs i d l)
+-- ---- the test of records: each range, and then each path against the next one
+abbrev pub ranged : Bound → Bool
+ranged b = leb b.values.lo b.values.hi
 
--- one more turn of the test
-pub turn : (bs : List Bound) (i : ℕ) (d : Bound) → i < length bs → bounds_lawful (drop i bs) ≡ (leb (get_or bs i d).values.lo (get_or bs i d).values.hi && (before_next (get_or bs i d) (drop (i + 1) bs) && bounds_lawful (drop (i + 1) bs)))
-turn bs i d l = at_drop_more bounds_lawful bs i d l
+abbrev climbs : List Bound → Bool
+climbs [] = true
+climbs (b ∷ rest) = before_next b rest && climbs rest
 
-pub next_is : (bs : List Bound) (b : Bound) (i : ℕ) (d : Bound) → i < length bs → before_next b (drop i bs) ≡ path_sooner b.path (get_or bs i d).path
-next_is bs b i d l = at_drop_more (before_next b) bs i d l
+both_ands : (a b c d : Bool) → (a && (b && (c && d))) ≡ ((a && c) && (b && d))
+both_ands true true c d = refl
+both_ands true false true d = refl
+both_ands true false false d = refl
+both_ands false b c d = refl
 
-pub next_none : (bs : List Bound) (b : Bound) (i : ℕ) → length bs ≤ i → before_next b (drop i bs) ≡ true
-next_none bs b i l = at_drop_all (before_next b) bs i l
+lawful_parts : (bs : List Bound) → bounds_lawful bs ≡ (list_all ranged bs && climbs bs)
+lawful_parts [] = refl
+lawful_parts (b ∷ rest) =
+    ap (λ t. ranged b && (before_next b rest && t)) (lawful_parts rest) ∙ both_ands (ranged b) (before_next b rest) (list_all ranged rest) (climbs rest)
 
-pub turn_on : (bs : List Bound) (i : ℕ) (d : Bound) → i < length bs → (get_or bs i d).values.lo ≤ (get_or bs i d).values.hi → before_next (get_or bs i d) (drop (i + 1) bs) ≡ true → bounds_lawful (drop i bs) ≡ bounds_lawful (drop (i + 1) bs)
-turn_on bs i d l range next =
-    let b = get_or bs i d in
-    let rest = drop (i + 1) bs in
-    turn bs i d l
-    ∙ ap (λ t. t && (before_next b rest && bounds_lawful rest)) (le-leb _ _ range)
-    ∙ ap (λ t. t && bounds_lawful rest) next
+-- a place of the rest is the next place of the whole
+in_rest : (v : Bool) (b : Bound) (rest : List Bound) (k : ℕ) (d : Bound) → v ≡ path_sooner (get_or (b ∷ rest) (suc k) d).path (get_or (b ∷ rest) (suc k + 1) d).path → v ≡ path_sooner (get_or rest k d).path (get_or rest (k + 1) d).path
+in_rest v b rest k d h =
+    let next : suc k + 1 ≡ suc (k + 1) = omega arith in
+    subst (λ n. v ≡ path_sooner (get_or rest k d).path (get_or (b ∷ rest) n d).path) next h
 
-pub rising_front : (bs : List Bound) (n : ℕ) → Rising bound_path path_sooner bs → Rising bound_path path_sooner (take n bs)
-rising_front bs n up =
-    let size = length-take n bs in
-    record {
-      climbs = λ i j d lt l.
-          let in-front : j < n = omega arith in
-          let in_all : j < length bs = omega arith in
-          subst (λ x. path_sooner (bound_path (get_or (take n bs) i d)) (bound_path x) ≡ true) (sym (get_or-take n bs j d in-front))
-          (subst (λ x. path_sooner (bound_path x) (bound_path (get_or bs j d)) ≡ true) (sym (get_or-take n bs i d (omega arith))) (up.climbs i j d lt in_all));
-    }
+all_climb : (bs : List Bound) → AllAdjacentBelow (λ x y. true ≡ path_sooner x.path y.path) bs (length bs) → climbs bs ≡ true
+all_climb [] h = refl
+all_climb (b ∷ []) h = refl
+all_climb (b ∷ (c ∷ rest)) h =
+    and_from _ _ (sym (h 0 b (omega arith))) (all_climb (c ∷ rest) (λ k d lt. in_rest true b (c ∷ rest) k d (h (suc k) d (omega arith))))
 
--- one more turn of the search for a record that is not met
-pub met_turn : (s : Required) (es : List Entry) (i : ℕ) (d : Bound) → i < s.count → first_unmet (drop i (bounds s)) es ≡ cond (met es (get_or s.records i d)) (first_unmet (drop (i + 1) (bounds s)) es) (Err (record { rule = ValueRequired; path = (get_or s.records i d).path }))
-met_turn s es i d l =
-    let size = length-take-le s.count s.records (omega arith) in
-    at_drop_more (λ bs. first_unmet bs es) (bounds s) i d (omega arith)
-    ∙ ap (λ (b : Bound). cond (met es b) (first_unmet (drop (i + 1) (bounds s)) es) (Err (record { rule = ValueRequired; path = b.path }))) (get_or-take s.count s.records i d l)
+one_falls : (bs : List Bound) (k : ℕ) → k + 1 < length bs → ((d : Bound) → false ≡ path_sooner (get_or bs k d).path (get_or bs (k + 1) d).path) → climbs bs ≡ false
+one_falls [] k lt h = absurd (omega arith)
+one_falls (b ∷ []) k lt h = absurd (omega arith)
+one_falls (b ∷ (c ∷ rest)) zero lt h = and_left _ _ (sym (h b))
+one_falls (b ∷ (c ∷ rest)) (suc k) lt h = and_right _ _ (one_falls (c ∷ rest) k (omega arith) (λ d. in_rest false b (c ∷ rest) k d (h d)))
 
-pub met_all : (s : Required) (es : List Entry) (i : ℕ) → s.count ≤ i → first_unmet (drop i (bounds s)) es ≡ Ok tt
-met_all s es i l =
-    let size = length-take-le s.count s.records (omega arith) in
-    at_drop_all (λ bs. first_unmet bs es) (bounds s) i (omega arith)
+climbs_is : (bs : List Bound) (s : Bool) → IsAllAdjacentAnswer (λ x y b. b ≡ path_sooner x.path y.path) bs s → s ≡ climbs bs
+climbs_is bs true h = sym (all_climb bs h)
+climbs_is bs false h = sym (one_falls bs h.0 h.1 h.2)
 
--- the record in places that are not used
-abbrev pub unused : Bound
-unused = record { path = record { node = 0; k1 = 0; k2 = 0 }; values = record { lo = 0; hi = 0 } }
+pub lawful_then : (bs : List Bound) (s : Bool) → list_all ranged bs ≡ true → IsAllAdjacentAnswer (λ x y b. b ≡ path_sooner x.path y.path) bs s → s ≡ bounds_lawful bs
+lawful_then bs s all h = climbs_is bs s h ∙ sym (lawful_parts bs ∙ ap (λ t. t && climbs bs) all)
 
--- one more record in use
-module _ (bs rows : List Bound) (count i : ℕ) (up : Rising bound_path path_sooner bs) (same : take count rows ≡ take i bs) (l : i < length bs) where
-  pub so_far : Rising bound_path path_sooner (take count rows)
-  so_far = subst (λ l. Rising bound_path path_sooner l) (sym same) (rising_front bs i up)
-
-  pub one_more : with_row bound_path path_sooner (take count rows) (get_or bs i unused) ≡ take (i + 1) bs
-  one_more = ap (λ l. with_row bound_path path_sooner l (get_or bs i unused)) same ∙ with_last bs i unused up l
-
-  pub one_more_length : length (with_row bound_path path_sooner (take count rows) (get_or bs i unused)) ≡ i + 1
-  one_more_length = ap length one_more ∙ length-take-le (i + 1) bs (omega arith)
+pub lawful_else : (bs : List Bound) → list_all ranged bs ≡ false → bounds_lawful bs ≡ false
+lawful_else bs none = lawful_parts bs ∙ ap (λ t. t && climbs bs) none

@@ -1,6 +1,5 @@
 -- The verdict of the schema rules.
-use Rattle.std.proofs.Common.{◌≡◌, ℕ, ◌<◌, ◌≤◌, true, List, length, Some, None, Option, Result, arith}
-use Rattle.std.proofs.lemmas.List.{length-take-le}
+use Rattle.std.proofs.Common.{◌≡◌, ◌<◌, ◌≤◌, true, List, length, Some, None, Option, Result, arith}
 use Rattle.schema.specs.Nodes.{nodes}
 use Rattle.schema.specs.declared.nodes.Node.{Node}
 use Rattle.schema.specs.declared.nodes.Node.TheVariants.{List as list_node, Leaf}
@@ -13,6 +12,7 @@ use Rattle.validate.specs.declared.broken.Broken.{Broken}
 use Rattle.validate.specs.Rules.{rule_number, first_no, Lowest, Told}
 use Rattle.validate.specs.Search.{lowest}
 use Rattle.validate.specs.Schemas.{Breaks, breaks, told_at, schema_verdict}
+use Rattle.validate.proofs.Lists.{at_most}
 use Rattle.validate.proofs.Low.{Low, KeysOf, low_like, lowest_low}
 use Rattle.validate.proofs.Decided.{numbered, is_missing, missing_is, missing_keys, is_dangling, dangling_is, dangling_keys, is_crowded, crowded_is, crowded_keys}
 
@@ -21,7 +21,7 @@ module _ (ns : List Node) (few : length ns ≤ 16) (es : List Entry) where
   is_broken MandatoryMissing p h = is_missing ns es p h
   is_broken ReferenceDangling p h = is_dangling ns es p h
   is_broken TooManyEntries p h = is_crowded ns es p h
-  is_broken ValueRequired p h = let z : ◌≡◌ {A = ℕ} 0 1 = cc in omega arith
+  is_broken ValueRequired p h = cc
 
   broken_is : (r : Rule) (p : Path) → Breaks ns es r p → breaks ns es r p ≡ true
   broken_is MandatoryMissing p b = missing_is ns es p b
@@ -97,4 +97,4 @@ module _ (ns : List Node) (few : length ns ≤ 16) (es : List Entry) where
       _ (low MandatoryMissing)
 
 pub few_nodes : (s : Schema) → length (nodes s) ≤ 16
-few_nodes s = let size = length-take-le s.count s.nodes (omega arith) in omega arith
+few_nodes s = at_most s.nodes

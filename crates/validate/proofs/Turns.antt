@@ -1,8 +1,15 @@
 -- One more turn of the searches of the schema rules.
-use Rattle.std.proofs.Common.{◌≡◌, ℕ, suc, ◌+◌, ◌-◌, ◌<◌, ◌≤◌, Bool, true, false, ◌&&◌, ◌||◌, eqb, List, length, get_or, drop, is_some, Some, None, Option, refl, subst, arith}
-use Rattle.std.specs.Option.{option_or}
+use Rattle.std.proofs.Common.{◌≡◌, ℕ, suc, zero, ◌+◌, ◌-◌, ◌<◌, ◌≤◌, Bool, ◌&&◌, ◌||◌, eqb, List, [], ◌∷◌, length, get_or, drop, Some, None, Option, sym, refl, ap, ◌∙◌, ⊎_elim, subst, arith}
+use Rattle.std.specs.List.{list_any}
+use Rattle.std.specs.Option.{option_map, option_or, MatchOption, IfSome, IsSomeAnd}
+use Rattle.std.specs.Bool.{IsTrue}
+use Rattle.std.specs.Iterator.Runs.{Run, SomeRun, AllItemsGive, IsFirstToGive, CallKeepsClosure}
+use Rattle.std.proofs.iter.runs.Sources.{range_runs}
+use Rattle.std.proofs.iter.Yields.{nat_range_steps}
+use Rattle.std.specs.declared.ops.Range.{Range}
+use denote.Param.Members.{Mut, Called}
 use Rattle.std.proofs.lemmas.List.{at_drop_more, at_drop_all}
-use Rattle.std.proofs.lemmas.Bool.{both_ways}
+use Rattle.std.proofs.lemmas.Bool.{cases_eq}
 use Rattle.schema.specs.declared.path.Path.{Path}
 use Rattle.config.specs.declared.entry.Entry.{Entry}
 use Rattle.validate.specs.Schemas.{has_key}
@@ -12,11 +19,13 @@ use Rattle.validate.specs.Search.{lower, with_keys, lowest_from, first_at}
 abbrev pub no_entry : Entry
 no_entry = record { path = record { node = 0; k1 = 0; k2 = 0 }; value = 0 }
 
-pub key_turn : (es : List Entry) (list key i : ℕ) → i < length es → has_key (drop i es) list key ≡ ((eqb (get_or es i no_entry).path.node list && eqb (get_or es i no_entry).path.k1 key) || has_key (drop (i + 1) es) list key)
-key_turn es list key i l = at_drop_more (λ rest. has_key rest list key) es i no_entry l
+-- the entry is of the list, with this key
+abbrev pub keyed : ℕ → ℕ → Entry → Bool
+keyed list key e = eqb e.path.node list && eqb e.path.k1 key
 
-pub key_done : (es : List Entry) (list key i : ℕ) → length es ≤ i → has_key (drop i es) list key ≡ false
-key_done es list key i l = at_drop_all (λ rest. has_key rest list key) es i l
+pub any_keyed : (es : List Entry) (list key : ℕ) → list_any (keyed list key) es ≡ has_key es list key
+any_keyed [] list key = refl
+any_keyed (e ∷ es) list key = ap (λ t. keyed list key e || t) (any_keyed es list key)
 
 pub from_turn : (test : Path → Bool) (n : ℕ) (so_far : Option Path) (es : List Entry) (i : ℕ) → i < length es → lowest_from test n so_far (drop i es) ≡ lowest_from test n (lower test so_far (with_keys n (get_or es i no_entry))) (drop (i + 1) es)
 unfolding lowest_from
@@ -26,23 +35,69 @@ pub from_done : (test : Path → Bool) (n : ℕ) (so_far : Option Path) (es : Li
 unfolding lowest_from
 from_done test n so_far es i l = at_drop_all (lowest_from test n so_far) es i l
 
-module _ {X : Type 0} where
-  pub other_some : (o p : Option X) → is_some o ≡ true → option_or o p ≡ o
-  other_some None p h = absurd (both_ways false refl h)
-  other_some (Some x) p h = refl
-
-  pub other_none : (o p : Option X) → is_some o ≡ false → option_or o p ≡ p
-  other_none None p h = refl
-  other_none (Some x) p h = absurd (both_ways true h refl)
-
-  pub first_turn : (f : ℕ → Option X) (i end : ℕ) → i < end → first_at f i (end - i) ≡ option_or (f i) (first_at f (i + 1) (end - (i + 1)))
+-- ---- what the first of so many numbers gives that gives something
+module _ {X : Type 0} (f : ℕ → Option X) where
+  none_gives : (many n : ℕ) → ((j : ℕ) → n ≤ j → j < n + many → f j ≡ None) → first_at f n many ≡ None
   unfolding first_at
-  first_turn f i end l =
-      let left : suc (end - (i + 1)) ≡ end - i = omega arith in
-      subst (λ k. first_at f i k ≡ option_or (f i) (first_at f (i + 1) (end - (i + 1)))) left refl
+  none_gives zero n h = refl
+  none_gives (suc many) n h =
+      ap (λ o. option_or o (first_at f (n + 1) many)) (h n (omega arith) (omega arith)) ∙ none_gives many (n + 1) (λ j a b. h j (omega arith) (omega arith))
 
-  pub first_done : (f : ℕ → Option X) (i end : ℕ) → end ≤ i → first_at f i (end - i) ≡ None
+  one_gives : (many n i : ℕ) (x : X) → n ≤ i → i < n + many → f i ≡ Some x → ((j : ℕ) → n ≤ j → j < i → f j ≡ None) → first_at f n many ≡ Some x
   unfolding first_at
-  first_done f i end l =
-      let left : 0 ≡ end - i = omega arith in
-      subst (λ k. first_at f i k ≡ None) left refl
+  one_gives zero n i x a b e none = absurd (omega arith)
+  one_gives (suc many) n i x a b e none =
+      ⊎_elim
+      (λ (here : n ≡ i). ap (λ o. option_or o (first_at f (n + 1) many)) (ap f here ∙ e))
+      (λ (later : n ≡ i → ⊥).
+      ap (λ o. option_or o (first_at f (n + 1) many)) (none n (omega arith) (omega arith))
+      ∙ one_gives many (n + 1) i x (omega arith) (omega arith) e (λ j c d. none j (omega arith) d))
+      (cases_eq n i)
+
+  module _ {F : Type 0} (g : Mut F (ℕ × Unit {0}) (Option X)) (c : F) (gives : (a : ℕ × Unit {0}) (r : Option X) (q : F) → Called g c a r q → (q ≡ c) × (r ≡ f a.0)) (n many : ℕ) where
+    same_option : (o : Option ℕ) (x : ℕ) → option_map (λ y. y) o ≡ Some x → o ≡ Some x
+    same_option None x e = cc
+    same_option (Some y) x e = e
+
+    -- `find_map` over a range
+    pub first_found : (s : Range ℕ) → s ≡ record { start = n; end = n + many } → (r : Option X)
+        → SomeRun nat_range_steps s (λ p. MatchOption r (IsTrue p.whole × AllItemsGive p g c None) (λ y. (i : ℕ) × (i < p.len) × (p.len ≡ i + 1) × IsFirstToGive p g c (Some y) None i))
+        → r ≡ first_at f n many
+    first_found s is r run = go r run.2
+      where
+        p : Run nat_range_steps
+        p = run.0
+
+        begins : p.from.start ≡ n
+        begins = ap (λ (x : Range ℕ). x.start) (run.1 ∙ is)
+
+        ends : p.from.end ≡ n + many
+        ends = ap (λ (x : Range ℕ). x.end) (run.1 ∙ is)
+
+        keeps : CallKeepsClosure g c
+        keeps a r q called = (gives a r q called).0
+
+        item : (k : ℕ) → k < p.len → p.at k ≡ Some (n + k)
+        item k l = same_option (p.at k) (n + k) ((range_runs p p.seen).3 k l ∙ ap (λ m. Some (m + k)) begins)
+
+        place : (k : ℕ) (r : Option X) → Called g c (n + k, tt) r c → (j : ℕ) → n + k ≡ j → f j ≡ r
+        place k r called j e = sym ((gives (n + k, tt) r c called).1 ∙ ap f e)
+
+        go : (r : Option X) → MatchOption r (IsTrue p.whole × AllItemsGive p g c None) (λ y. (i : ℕ) × (i < p.len) × (p.len ≡ i + 1) × IsFirstToGive p g c (Some y) None i) → r ≡ first_at f n many
+        go None h =
+            let counts = range_runs p p.seen in
+            let all : p.len ≡ p.from.end - p.from.start = counts.1 h.0 in
+            sym (none_gives many n (λ j a b.
+            let l : j - n < p.len = omega (arith, begins, ends) in
+            place (j - n) None (subst (λ o. IfSome o (λ x. Called g c (x, tt) None c)) (item (j - n) l) (h.1 keeps (j - n))) j (omega arith)))
+        go (Some y) h =
+            let counts = range_runs p p.seen in
+            let few : p.len ≤ p.from.end - p.from.start = counts.0 in
+            let i = h.0 in
+            let within : i < p.len = h.1 in
+            let both = h.3 keeps in
+            sym (one_gives many n (n + i) y (omega arith) (omega (arith, begins, ends))
+            (place i (Some y) (subst (λ o. IsSomeAnd o (λ x. Called g c (x, tt) (Some y) c)) (item i within) both.0) (n + i) refl)
+            (λ j a b.
+            let l : j - n < i = omega arith in
+            place (j - n) None (subst (λ o. IsSomeAnd o (λ x. Called g c (x, tt) None c)) (item (j - n) (omega arith)) (both.1 (j - n) l)) j (omega arith)))

@@ -1,5 +1,6 @@
 -- The required values that are held.
-use Rattle.std.specs.Prelude.{◌≡◌, List, take, Ok, Err, Result}
+use Rattle.std.specs.Prelude.{◌≡◌, List, Ok, Err, Result}
+use Rattle.table.specs.Slots.{items}
 use Rattle.validate.specs.declared.bound.Bound.{Bound}
 use Rattle.validate.specs.declared.required.Required.{Required}
 use Rattle.validate.specs.declared.required.RequiredFault.{RequiredFault}
@@ -7,7 +8,7 @@ use Rattle.validate.specs.Bounds.{Listed}
 
 -- the records in use
 abbrev pub bounds : Required → List Bound
-bounds r = take r.count r.records
+bounds r = items r.records
 
 -- Records that can be taken are held as they are, and others are refused.
 abbrev pub Made : List Bound → Result Required RequiredFault → Type 0

@@ -1,9 +1,13 @@
 -- The lowest path that passes a test, among the paths of nodes 1 to 16 without keys or with the keys of an entry.
-use Rattle.std.specs.Prelude.{ℕ, zero, suc, ◌+◌, Bool, cond, List, [], ◌∷◌, Some, None, Option}
+use Rattle.std.specs.Prelude.{◌≡◌, ℕ, zero, suc, ◌+◌, Bool, cond, List, [], ◌∷◌, Some, None, Option}
 use Rattle.std.specs.Option.{option_or}
 use Rattle.schema.specs.declared.path.Path.{Path}
 use Rattle.config.specs.declared.entry.Entry.{Entry}
 use Rattle.config.specs.Order.{path_sooner}
+
+-- whatever is answered at a path is what the test says of it
+abbrev pub Computes : (Path → Bool → Type 0) → (Path → Bool) → Type 0
+Computes answers test = (p : Path) (r : Bool) → answers p r → r ≡ test p
 
 -- the lower of the lowest path so far, if there is one, and this one
 abbrev pub least : Option Path → Path → Path

@@ -10,13 +10,13 @@ use schema::{Path, Range};
 use table::Record;
 
 // A path that has to be present, and the range of its value.
-#[derive(Clone, Copy)]
+#[derive(Clone, Copy, PartialEq, Eq, Debug)]
 pub struct Bound {
     pub path: Path,
     pub values: Range,
 }
 
-// In the order of their paths.
+// In the order of their paths. As of entries: one impl for all that have a path would need a trait of paths, no plainer.
 impl Record for Bound {
     type Key = Path;
 
@@ -35,7 +35,7 @@ impl Record for Bound {
     }
 
     fn before(a: Path, b: Path) -> bool {
-        <config::Entry as Record>::before(a, b)
+        a < b
     }
 }
 
@@ -45,10 +45,9 @@ impl Bound {
         ensures { result ≡ met (used config.now) self }
     {
         let Bound { path, values } = self;
-        match config.get(path) {
-            Some(entry) => values.has(entry.value),
-            None => false,
-        }
+        config
+            .get(path)
+            .is_some_and(|entry| values.has(entry.value))
     }
 }
 
@@ -56,14 +55,8 @@ impl Bound {
 pub(crate) fn lawful(records: &[Bound]) -> bool
     ensures { result ≡ bounds_lawful records.now }
 {
-    for i in 0..records.len() {
-        let Bound { path, values } = records[i];
-        if values.lo > values.hi {
-            return false;
-        }
-        if i + 1 < records.len() && !<config::Entry as Record>::before(path, records[i + 1].path) {
-            return false;
-        }
-    }
-    true
+    records
+        .iter()
+        .all(|record| record.values.lo <= record.values.hi)
+        && records.is_sorted_by(|a, b| a.path < b.path)
 }

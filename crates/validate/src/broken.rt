@@ -7,7 +7,7 @@ use fault::Report;
 use schema::Path;
 
 // The rules that a configuration can break.
-#[derive(Clone, Copy)]
+#[derive(Clone, Copy, PartialEq, Eq, Debug)]
 pub enum Rule {
     MandatoryMissing = 1,
     ReferenceDangling = 2,
@@ -16,6 +16,7 @@ pub enum Rule {
 }
 
 impl Rule {
+    // A method and no From, which is no plainer: the conversion is the cast alone.
     pub fn number(self) -> u32
         ensures { result ≡ rule_number self }
     {
@@ -24,14 +25,14 @@ impl Rule {
 }
 
 // A rule that is broken, and where.
-#[derive(Clone, Copy)]
+#[derive(Clone, Copy, PartialEq, Eq, Debug)]
 pub struct Broken {
     pub rule: Rule,
     pub path: Path,
 }
 
 impl Broken {
-    // Refusal 29, with the rule as cause, at the path.
+    // Refusal 29, with the rule as cause, at the path. A method and no From, as of every fault.
     pub fn report(self) -> Report
         ensures { result ≡ at_path (because (plain 29) (rule_number self.rule)) self.path.node self.path.k1 self.path.k2 }
     {

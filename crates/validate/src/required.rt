@@ -1,19 +1,18 @@
 // Required values in fixed memory.
-ghost use Rattle.std.specs.Prelude.{◌≡◌, ◌≤◌, true, length, take};
+ghost use Rattle.std.specs.Prelude.{◌≡◌, true};
+ghost use Rattle.table.specs.Slots.{items};
 ghost use Rattle.validate.specs.Bounds.{bounds_lawful};
 
 use crate::bound::Bound;
+use table::Slots;
 
-// Up to 8 records in strictly rising order of their paths, in the first places.
+// Up to 8 records in strictly rising order of their paths.
 #[derive(Clone, Copy)]
 pub struct Required {
-    pub(crate) records: [Bound; 8],
-    pub(crate) count: usize,
-    ghost whole: { length records ≡ 8 },
-    ghost few: { count ≤ 8 },
-    ghost lawful: { bounds_lawful (take count records) ≡ true },
+    pub(crate) records: Slots<Bound, 8>,
+    ghost lawful: { bounds_lawful (items records) ≡ true },
 }
 
 // The records are more than 8, do not rise, or have an empty range.
-#[derive(Clone, Copy)]
+#[derive(Clone, Copy, PartialEq, Eq, Debug)]
 pub struct RequiredFault;

@@ -13,6 +13,7 @@ use crate::validator::Validator;
 use config::Config;
 use fault::Report;
 use schema::{Path, Range};
+use table::Slots;
 
 const UNUSED: Bound = Bound {
     path: Path {
@@ -31,25 +32,18 @@ impl Required {
         if !lawful(records) {
             return Err(RequiredFault);
         }
-        let mut rows = [UNUSED; 8];
-        let mut count = 0;
+        let mut held = Slots::new(UNUSED);
         for record in records {
-            let Ok(used) = table::put(&mut rows, count, *record) else {
-                return Err(RequiredFault);
-            };
-            count = used;
+            held.push(*record).map_err(|_| RequiredFault)?;
         }
-        Ok(Required {
-            records: rows,
-            count,
-        })
+        Ok(Required { records: held })
     }
 
     // What is required at a path.
     pub fn get(&self, path: Path) -> Option<Bound>
         ensures { result ≡ lookup bound_path path_sooner (bounds self.now) path }
     {
-        table::get(&self.records, self.count, path)
+        self.records.get(path)
     }
 }
 
@@ -58,8 +52,7 @@ impl Validator for Required {
     ghost verdict = { λ s es. first_unmet (bounds s) es };
 
     fn check(&self, config: &Config) -> Result<(), Broken> {
-        for i in 0..self.count {
-            let record = self.records[i];
+        for record in self.records.as_slice() {
             if !record.is_met(config) {
                 return Err(Broken {
                     rule: Rule::ValueRequired,
@@ -72,7 +65,7 @@ impl Validator for Required {
 }
 
 impl RequiredFault {
-    // Refusal 14.
+    // Refusal 14. A method and no From, as of every fault: some answer an Option or take a path.
     pub fn report(self) -> Report
         ensures { result ≡ plain 14 }
     {

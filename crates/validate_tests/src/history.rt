@@ -2,7 +2,7 @@
 use crate::support::{answer, entry, no, path, yes};
 use config::{Config, Entry};
 use fault::Report;
-use schema::{NodeRow, Path, Schema};
+use schema::{NodeRow, Path, Schema, SchemaFault};
 use std::process::Abort;
 use std::test::Fail;
 use validate::{SchemaRules, Validator};
@@ -33,7 +33,7 @@ fn leaf(parent: u32, mandatory: u32, reference: u32) -> NodeRow {
 
 // List 1 at the top and list 2 in it, two entries each at most. Leaf 3 in list 1, 4 in list 2 and 5 at the top are mandatory.
 // Leaf 6 at the top and 7 in list 2 refer to list 1.
-fn rules() -> Option<SchemaRules> {
+fn rules() -> Result<SchemaRules, SchemaFault> {
     let rows = [
         list(0, 2),
         list(1, 2),
@@ -43,10 +43,9 @@ fn rules() -> Option<SchemaRules> {
         leaf(0, 0, 1),
         leaf(2, 0, 1),
     ];
-    match Schema::check(&rows) {
-        Ok(schema) => Some(SchemaRules { schema }),
-        Err(_) => None,
-    }
+    Ok(SchemaRules {
+        schema: Schema::check(&rows)?,
+    })
 }
 
 #[derive(Clone, Copy)]
@@ -99,9 +98,7 @@ fn the_lowest_is_told(rt: HostRuntime) -> Result<(), Fail> {
 }
 
 fn run(rt: &impl Abort, steps: &[(Step, Report)]) -> Result<(), Fail> {
-    let Some(rules) = rules() else {
-        return Err(Fail::new("no schema"));
-    };
+    let rules = rules()?;
     let mut config = Config::empty();
     for (step, expected) in steps {
         match *step {

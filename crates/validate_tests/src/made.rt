@@ -66,10 +66,7 @@ fn which_records_are_taken(rt: HostRuntime) {
 
 #[test]
 fn rule_four(rt: HostRuntime) -> Result<(), Fail> {
-    let Ok(required) = Required::new(&[bound(1, 4, 0, 0), bound(3, 4, 2, 5), bound(99, 0, 0, 9)])
-    else {
-        return Err(Fail::new("not made"));
-    };
+    let required = Required::new(&[bound(1, 4, 0, 0), bound(3, 4, 2, 5), bound(99, 0, 0, 9)])?;
     let steps: [(Entry, Report); 7] = [
         (entry(3, 4, 0, 1), no(4, 1, 4, 0)),
         (entry(1, 4, 0, 0), no(4, 3, 4, 0)),

@@ -39,12 +39,8 @@ fn the_first_no(rt: HostRuntime) -> Result<(), Fail> {
         path: path(2, 0, 0),
         values: Range { lo: 3, hi: 3 },
     };
-    let Ok(first) = Required::new(&[first]) else {
-        return Err(Fail::new("not made"));
-    };
-    let Ok(second) = Required::new(&[second]) else {
-        return Err(Fail::new("not made"));
-    };
+    let first = Required::new(&[first])?;
+    let second = Required::new(&[second])?;
     let mut config = Config::empty();
     assert_eq!(rt; answer(&Both { first, second }, &config), no(4, 1, 1, 0));
     assert_eq!(rt;

@@ -4,5 +4,5 @@ use Rattle.amend.proofs.amend.Goals as goal
 
 pub returns : goal.returns
 returns c =
-    made _ c.args.before c.args.change c.put.result c.put.new.self c.take_out-taken.result c.take_out-taken.new.self c.encode.new.out c.encode.result c.unwrap_or-length.result
-    (sym c.in_default.ensures) (sym c.if-is_err.ensures.value) c.put.ensures c.take_out-taken.ensures c.encode.ensures c.unwrap_or-length.ensures
+    made _ c.args.before c.args.change c.put.new.self c.take_out-taken.result c.take_out-taken.new.self c.encode.new.out c.encode.result c.unwrap_or-length.result
+    (sym c.in_ok-check_entry.ensures) c.in_ok-put.ensures c.take_out-taken.ensures c.encode.ensures c.unwrap_or-length.ensures

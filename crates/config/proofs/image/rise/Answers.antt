@@ -1,31 +1,11 @@
-use Rattle.std.proofs.Common.{◌≡◌, ◌+◌, ◌-◌, ◌≤◌, ◌&&◌, length, drop, sym, ap, ◌∙◌, arith}
-use Rattle.std.proofs.lemmas.List.{length-drop}
-use Rattle.config.specs.Order.{rising}
-use Rattle.config.proofs.Images.{rising_turn, rising_short}
+use Rattle.std.proofs.Common.{rules}
+use Rattle.std.proofs.lemmas.Fn.{always_returns_same}
+use Rattle.config.specs.Order.{path_sooner}
+use Rattle.config.specs.declared.entry.Entry.{Entry}
+use Rattle.config.proofs.Images.{rising_answer}
 use Rattle.config.proofs.image.rise.Goals as goal
-
-pub returns-then-not-before : goal.returns-then-not-before
-returns-then-not-before c =
-    let es = c.args.entries.now in
-    let i = c.loop-i.i in
-    sym (c.loop-i.invariant
-    ∙ rising_turn es i _ (omega (arith, c.loop-i.auto.i)) c.loop-i-test.true
-    ∙ ap (λ b. b && rising (drop i es)) (sym c.if-not-before.ensures))
-
-pub loop-i-preserved : goal.loop-i-preserved
-loop-i-preserved c =
-    let es = c.args.entries.now in
-    let i = c.loop-i.i in
-    let back : i ≡ i + 1 - 1 = omega arith in
-    c.loop-i.invariant
-    ∙ rising_turn es i _ (omega (arith, c.loop-i.auto.i)) c.loop-i-test.true
-    ∙ ap (λ b. b && rising (drop i es)) (sym c.if-not-before.ensures)
-    ∙ ap (λ n. rising (drop n es)) back
 
 pub returns : goal.returns
 returns c =
-    let es = c.args.entries.now in
-    let i = c.loop-i.i in
-    let size = length-drop (i - 1) es in
-    let short : length (drop (i - 1) es) ≤ 1 = omega (arith, c.loop-i-test.false) in
-    sym (c.loop-i.invariant ∙ rising_short (drop (i - 1) es) short)
+    rising_answer c.args.entries.now c.is_sorted_by.result
+    (c.is_sorted_by.ensures.cases (λ (a b : Entry). path_sooner a.path b.path) (always_returns_same _ _ _ (λ a r f k. search rules)))

@@ -1,7 +1,7 @@
-use Rattle.std.proofs.Common.{◌≡◌, ◌≤◌, length, is_some, sym, ap, ◌∙◌, subst, arith}
+use Rattle.std.proofs.Common.{◌≡◌, ◌≤◌, length, is_some, sym, ap, ◌∙◌, subst}
 use Rattle.schema.specs.Nodes.{nodes}
 use Rattle.config.specs.Configs.{used, with_entry}
-use Rattle.config.proofs.Places.{used_length}
+use Rattle.config.proofs.Places.{used_few}
 use Rattle.edit.specs.Does.{cleared, entry_of, put_in, present}
 use Rattle.edit.proofs.Changed.{changed_else, changed_puts, performed, room}
 use Rattle.edit.proofs.Judged.{has_room, judged_passes}
@@ -15,7 +15,7 @@ put_in-requires c =
     let x = c.in_ok-operation in
     let h = sym c.if-puts.ensures in
     let p = judged_passes (nodes schema) (used config) i x.operation x.node (sym x.ensures) in
-    let few : length (used config) ≤ 48 = omega (arith, used_length config, config.few) in
+    let few : length (used config) ≤ 48 = used_few config in
     subst (λ l. length (with_entry l (entry_of i)) ≤ 48) (sym c.retain.ensures.entries_are)
     (room (nodes schema) schema.nested (used config) x.operation x.node i config.rises h (has_room (nodes schema) (used config) i x.operation x.node p h) few)
 

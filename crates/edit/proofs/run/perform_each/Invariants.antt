@@ -6,8 +6,8 @@ use Rattle.edit.specs.Does.{does}
 use Rattle.edit.specs.Options.{performed, through}
 use Rattle.edit.proofs.run.perform_each.Given as goal
 
-abbrev pub invariant-loop-i : goal.invariant-loop-i
-invariant-loop-i l =
-    (l.done ≤ l.i)
-    × (through (does (nodes l.schema)) (used l.config) (drop l.i l.list) ≡ through (does (nodes l.schema)) (used l.initial.config) l.list)
-    × (l.done + performed (does (nodes l.schema)) (used l.config) (drop l.i l.list) ≡ performed (does (nodes l.schema)) (used l.initial.config) l.list)
+abbrev pub invariant-loop-item : goal.invariant-loop-item
+invariant-loop-item l =
+    (l.done ≤ l.item-index)
+    × (through (does (nodes l.schema)) (used l.config) (drop l.item-index l.item-items) ≡ through (does (nodes l.schema)) (used l.initial.config) l.item-items)
+    × (l.done + performed (does (nodes l.schema)) (used l.config) (drop l.item-index l.item-items) ≡ performed (does (nodes l.schema)) (used l.initial.config) l.item-items)

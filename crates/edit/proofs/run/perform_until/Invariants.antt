@@ -8,5 +8,5 @@ use Rattle.edit.proofs.run.perform_until.Given as goal
 
 abbrev pub invariant-loop-i : goal.invariant-loop-i
 invariant-loop-i l =
-    (until (does (nodes l.schema)) (used l.config) (drop l.i l.list) ≡ until (does (nodes l.schema)) (used l.initial.config) l.list)
-    × (refused_after (does (nodes l.schema)) l.i (used l.config) (drop l.i l.list) ≡ first_refused (does (nodes l.schema)) (used l.initial.config) l.list)
+    (until (does (nodes l.schema)) (used l.config) (drop l.i l.item-items) ≡ until (does (nodes l.schema)) (used l.initial.config) l.item-items)
+    × (refused_after (does (nodes l.schema)) l.i (used l.config) (drop l.i l.item-items) ≡ first_refused (does (nodes l.schema)) (used l.initial.config) l.item-items)

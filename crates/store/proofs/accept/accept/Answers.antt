@@ -1,16 +1,17 @@
-use Rattle.std.proofs.Common.{◌≡◌, ℕ, ◌+◌, ◌-◌, ◌*◌, ◌≤◌, List, [], ◌∷◌, length, get_or, take, sym, refl, ap, ◌∙◌, arith}
-use Rattle.std.proofs.lemmas.List.{length-take-le}
+use Rattle.std.proofs.Common.{◌≡◌, ℕ, ◌+◌, ◌-◌, ◌*◌, ◌≤◌, Bool, true, false, List, [], length, get_or, take, Some, None, Ok, Err, Result, sym, refl, ap, ◌∙◌, arith}
+use Rattle.std.specs.Bool.{then_some, Decides}
+use Rattle.std.specs.Result.{result_ok}
+use Rattle.std.proofs.lemmas.Slice.Eq.{slice_eq-Decides, bytes_eq-Decides}
+use Rattle.schema.specs.declared.nodes.Node.{Node}
 use Rattle.config.specs.Configs.{used}
-use Rattle.config.specs.Images.{image}
+use Rattle.config.specs.Images.{image, Read}
+use Rattle.config.specs.Lawful.{Lawful}
+use Rattle.config.specs.declared.config.Config.{Config}
 use Rattle.config.specs.declared.entry.Entry.{Entry}
 use Rattle.config.proofs.Images.{image_same}
 use Rattle.journal.specs.Layout.{Pages, home_pages}
-use Rattle.journal.specs.Plans.{Write, changes, targets}
-use Rattle.journal.proofs.Pages.{homes_image, homes_count, length_homes}
-use Rattle.journal.proofs.Promises.{none_changed, no_change}
-use Rattle.store.specs.Accepting.{image_bytes}
-use Rattle.store.specs.Targets.{listed}
-use Rattle.store.specs.declared.targets.Targets.{Targets}
+use Rattle.journal.proofs.Pages.{homes_image, homes_count}
+use Rattle.store.specs.Accepting.{Accepts, image_bytes}
 use Rattle.store.proofs.accept.accept.Goals as goal
 
 -- the image of lawful entries, out of their home blocks
@@ -22,41 +23,47 @@ image_of ps es n few e is =
     let all : 1 + 16 * n - 0 ≡ 1 + 16 * length es = omega (arith, count_in ps es e) in
     ap (λ (k : ℕ). take k (image_bytes ps)) all ∙ ap (λ (l : Pages). take (1 + 16 * length es) (image_bytes l)) e ∙ homes_image es few
 
-no_targets : (ws : List Write) → targets ws ≡ [] → ws ≡ []
-no_targets [] e = refl
-no_targets (w ∷ ws) e = absurd (let z : ◌≡◌ {A = ℕ} 0 1 = cc in omega arith)
+-- what was read, and what was not
+was_read : {F : Type 0} (ns : List Node) (bytes : List ℕ) (r : Result Config F) (cf : Config) → Some cf ≡ result_ok r → Read ns bytes r → Lawful ns (used cf) × (bytes ≡ image (used cf))
+was_read ns bytes (Ok c) cf e read = let same : c ≡ cf = cc in rw same at read
+was_read ns bytes (Err f) cf e read = absurd (let z : ◌≡◌ {A = ℕ} 0 1 = cc in omega arith)
 
-none_listed : (t : Targets) → t.count ≡ 0 → listed t ≡ []
-none_listed t e = ap (λ (n : ℕ). take n t.blocks) e
+not_read : {F : Type 0} (ns : List Node) (bytes : List ℕ) (r : Result Config F) → None ≡ result_ok r → Read ns bytes r → (es : List Entry) → Lawful ns es → bytes ≡ image es → ⊥
+not_read ns bytes (Ok c) e read = absurd (let z : ◌≡◌ {A = ℕ} 0 1 = cc in omega arith)
+not_read ns bytes (Err f) e read = read
 
-some_listed : (t : Targets) → listed t ≡ [] → t.count ≡ 0
-some_listed t e = sym (length-take-le t.count t.blocks (omega (arith, t.few, t.whole))) ∙ ap length e
+-- a configuration that was read, by the test of its home blocks
+by_test : (ns : List Node) (hs ps : Pages) (cf : Config) (b : Bool) → Lawful ns (used cf) → ps ≡ home_pages (used cf) → ((es : List Entry) → Lawful ns es → hs ≡ home_pages es → ps ≡ hs) → Decides b (ps ≡ hs) → Accepts ns hs (then_some b cf)
+by_test ns hs ps cf true lawful pages only d = (lawful, sym (d.0 refl) ∙ pages)
+by_test ns hs ps cf false lawful pages only d = (refl, λ es l is. let h = d.1 (only es l is) in let z : ◌≡◌ {A = ℕ} 0 1 = cc in omega arith)
 
-pub returns-then-length-gt769 : goal.returns-then-length-gt769
-returns-then-length-gt769 c =
-    (refl, λ es lawful is. let n : c.from.result ≡ length es = c.from.ensures ∙ ap (λ (l : List ℕ). get_or l 0 0) c.image_in-image.ensures ∙ count_in c.args.homes.now es is in omega (arith, lawful.few))
+pub returns-in_err-entries : goal.returns-in_err-entries
+returns-in_err-entries c =
+    let hs = c.args.homes.now in
+    rw c.from_residual.ensures
+    (refl, λ es lawful is. let n : c.from.result ≡ length es = c.from.ensures ∙ ap (λ (l : List ℕ). get_or l 0 0) c.image_in-image.ensures ∙ count_in hs es is in let h = c.in_err-entries.ensures.lookup.1 (omega arith, omega (arith, lawful.few)) in let z : ◌≡◌ {A = ℕ} 0 1 = cc in omega arith)
 
-pub returns-in_default : goal.returns-in_default
-returns-in_default c =
+pub returns-in_err-config : goal.returns-in_err-config
+returns-in_err-config c =
     let img = c.image_in-image.ensures in
-    (refl, λ es lawful is. c.in_default.ensures es lawful (ap (take (1 + 16 * c.from.result - 0)) img ∙ image_of c.args.homes.now es c.from.result lawful.few is (c.from.ensures ∙ ap (λ (l : List ℕ). get_or l 0 0) img)))
+    let hs = c.args.homes.now in
+    let n = c.from.result in
+    let part = c.in_ok-entries.ensures.lookup.0.2 in
+    rw c.from_residual-in_err-config.ensures
+    (refl, λ es lawful is. not_read _ _ c.read.result c.in_err-config.ensures.value c.read.ensures es lawful (part ∙ ap (take (1 + 16 * n - 0)) img ∙ image_of hs es n lawful.few is (c.from.ensures ∙ ap (λ (l : List ℕ). get_or l 0 0) img)))
 
-pub returns-then-changed-eq0 : goal.returns-then-changed-eq0
-returns-then-changed-eq0 c =
-    let es = used c.in-Ok.config in
-    let none : changes 26 c.pages.result c.args.homes.now ≡ [] = no_targets _ (sym c.changed.ensures ∙ none_listed c.changed.result c.if-changed-eq0.true) in
-    let long : length c.pages.result ≡ length c.args.homes.now = ap length c.pages.ensures ∙ length_homes es ∙ sym c.told-homes in
-    (c.in-Ok.ensures.0, sym (none_changed 26 c.pages.result c.args.homes.now long none) ∙ c.pages.ensures)
-
-pub returns-else-changed-eq0 : goal.returns-else-changed-eq0
-returns-else-changed-eq0 c =
+pub returns : goal.returns
+returns c =
     let img = c.image_in-image.ensures in
-    let es = used c.in-Ok.config in (
-      refl,
-      λ fs lawful is.
-          let n : c.from.result ≡ get_or (image_bytes c.args.homes.now) 0 0 = c.from.ensures ∙ ap (λ (l : List ℕ). get_or l 0 0) img in
-          let same : es ≡ fs = image_same es fs (sym c.in-Ok.ensures.1 ∙ ap (take (1 + 16 * c.from.result - 0)) img ∙ image_of c.args.homes.now fs c.from.result lawful.few is n) in
-          let pages : c.pages.result ≡ c.args.homes.now = c.pages.ensures ∙ ap home_pages same ∙ sym is in
-          let none : changes 26 c.pages.result c.args.homes.now ≡ [] = ap (λ (l : Pages). changes 26 l c.args.homes.now) pages ∙ no_change 26 c.args.homes.now in
-          c.if-changed-eq0.false (some_listed c.changed.result (c.changed.ensures ∙ ap targets none)),
-    )
+    let hs = c.args.homes.now in
+    let n = c.from.result in
+    let part = c.in_ok-entries.ensures.lookup.0.2 in
+    let cf = c.in_ok-config.config in
+    let read = was_read _ _ c.read.result cf c.in_ok-config.ensures.value c.read.ensures in
+    rw c.then_some.ensures
+    (by_test _ hs c.pages.result cf c.eq.result read.0 c.pages.ensures
+    (λ es lawful is.
+    let count : n ≡ get_or (image_bytes hs) 0 0 = c.from.ensures ∙ ap (λ (l : List ℕ). get_or l 0 0) img in
+    let same : used cf ≡ es = image_same (used cf) es (sym read.1 ∙ part ∙ ap (take (1 + 16 * n - 0)) img ∙ image_of hs es n lawful.few is count) in
+    c.pages.ensures ∙ ap home_pages same ∙ sym is)
+    (slice_eq-Decides bytes_eq-Decides _ _ _ c.eq.ensures))

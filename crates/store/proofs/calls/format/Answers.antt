@@ -1,4 +1,4 @@
-use Rattle.std.proofs.Common.{◌≡◌, ◌≤◌, [], ◌∷◌, length, Ok, Err, arith, rules}
+use Rattle.std.proofs.Common.{◌≡◌, [], ◌∷◌, Ok, Err, rules}
 use Rattle.config.specs.Configs.{used}
 use Rattle.device.specs.Accesses.{write, all, write_on, write_fails}
 use Rattle.device.proofs.Carrying.{carried_then, carried_ends}
@@ -10,8 +10,8 @@ use Rattle.store.proofs.calls.format.Goals as goal
 
 pub returns-in_err-write_run : goal.returns-in_err-write_run
 returns-in_err-write_run g c =
-    let lost : c.from_residual.result ≡ Err (Device c.in_err-write_run.field-0.0) = search rules in
-    let room : 51 ≤ length (g.D.Device.blocks c.args.device.now) = omega arith in
+    let lost : c.from_residual-in_err-write_run.result ≡ Err (Device c.in_err-write_run.field-0.0) = search rules in
+    let room = c.in_ok-has_room.ensures in
     large _ _ _ _ _ room
     (record {
       raised = c.power_up.new.self;
@@ -26,7 +26,7 @@ returns-in_err-write_run g c =
 pub returns-in_err-write : goal.returns-in_err-write
 returns-in_err-write g c =
     let lost : c.from_residual-in_err-write.result ≡ Err (Device c.in_err-write.field-0.0) = search rules in
-    let room : 51 ≤ length (g.D.Device.blocks c.args.device.now) = omega arith in
+    let room = c.in_ok-has_room.ensures in
     large _ _ _ _ _ room
     (record {
       raised = c.power_up.new.self;
@@ -40,7 +40,7 @@ returns-in_err-write g c =
 
 pub returns : goal.returns
 returns g c =
-    let room : 51 ≤ length (g.D.Device.blocks c.args.device.now) = omega arith in
+    let room = c.in_ok-has_room.ensures in
     large _ _ _ _ _ room
     (record {
       raised = c.power_up.new.self;

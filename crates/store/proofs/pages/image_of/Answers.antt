@@ -1,10 +1,10 @@
 use Rattle.std.proofs.Common.{◌≡◌, ℕ, ◌-◌, ◌*◌, ◌≤◌, List, ◌++◌, length, Ok, Err, Result, ◌∙◌, arith}
 use lib.ListN.{length-replicate}
-use Rattle.std.proofs.lemmas.List.{length-take-le}
 use Rattle.config.specs.Configs.{used}
 use Rattle.config.specs.Images.{image, Encoded}
 use Rattle.config.specs.declared.entry.Entry.{Entry}
 use Rattle.config.proofs.Images.{length_image}
+use Rattle.config.proofs.Places.{used_few}
 use Rattle.journal.specs.Layout.{zeros}
 use Rattle.journal.proofs.Steps.{padded}
 use Rattle.store.proofs.pages.image_of.Goals as goal
@@ -14,7 +14,4 @@ encoded es out (Ok n) few e = padded es n out few (e.1 ∙ length_image es) e.2
 encoded es out (Err f) few e = absurd (omega (arith, length-replicate {A = ℕ} 769 0))
 
 pub returns : goal.returns
-returns c =
-    let cf = c.args.config.now in
-    let few : length (used cf) ≤ 48 = omega (arith, length-take-le cf.count cf.entries (omega arith)) in
-    encoded (used cf) c.encode.new.out c.encode.result few c.encode.ensures
+returns c = encoded (used c.args.config.now) c.encode.new.out c.encode.result (used_few c.args.config.now) c.encode.ensures

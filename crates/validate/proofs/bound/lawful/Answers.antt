@@ -1,34 +1,20 @@
-use Rattle.std.proofs.Common.{◌+◌, get_or, sym, ◌∙◌}
-use Rattle.std.proofs.lemmas.List.{at_drop_all}
-use Rattle.std.proofs.lemmas.Bool.{and_left, and_right, lt-leb}
-use Rattle.validate.specs.Bounds.{bounds_lawful}
-use Rattle.validate.proofs.Records.{turn, turn_on, next_is, next_none, unused}
+use Rattle.std.proofs.Common.{◌≡◌, sym, ◌∙◌, rules, tests}
+use Rattle.std.specs.List.{list_all}
+use Rattle.std.proofs.lemmas.Iterator.{YieldsList-from_slice}
+use Rattle.std.proofs.lemmas.Iterator.Search.{all_from_yields_List}
+use Rattle.std.proofs.lemmas.List.Sorted.{answers_always}
+use Rattle.config.specs.Order.{path_sooner}
+use Rattle.validate.proofs.Records.{ranged, lawful_then, lawful_else}
 use Rattle.validate.proofs.bound.lawful.Goals as goal
-use Rattle.validate.proofs.bound.lawful.Goals.{else-i-records-via-then-i-records+else-not-before, else-i-records-via-else-i-records}
 
-pub returns-then-values : goal.returns-then-values
-returns-then-values c =
-    sym (c.loop-i.invariant ∙ turn c.args.records.now c.loop-i.i _ c.loop-i-test.true ∙ and_left _ _ (lt-leb _ _ c.if-values.true))
-
-pub returns-then-not-before : goal.returns-then-not-before
-returns-then-not-before c =
+pub returns-then-all : goal.returns-then-all
+returns-then-all c =
     let bs = c.args.records.now in
-    let i = c.loop-i.i in
-    let b = get_or bs i unused in
-    sym (c.loop-i.invariant
-    ∙ turn bs i unused c.loop-i-test.true
-    ∙ and_right _ _ (and_left _ _ (next_is bs b (i + 1) unused c.if-i-records.true ∙ sym c.if-not-before.ensures)))
+    let all : c.all.result ≡ list_all ranged bs = all_from_yields_List ranged _ _ c.all.result c.all.ensures.ran (YieldsList-from_slice bs cc) (λ x b q k. search (rules, tests)) in
+    lawful_then bs _ (sym all ∙ c.if-all.true) (c.is_sorted_by.ensures.cases (λ x y. path_sooner x.path y.path) (answers_always _ _ _ (λ f a r q k. search (rules, tests))))
 
-pub loop-i-preserved : goal.loop-i-preserved
-loop-i-preserved c =
+pub returns-else-all : goal.returns-else-all
+returns-else-all c =
     let bs = c.args.records.now in
-    let i = c.loop-i.i in
-    let b = get_or bs i unused in
-    c.loop-i.invariant
-    ∙ elim c.else-i-records.branch [
-      | else-i-records-via-then-i-records+else-not-before w ↦ turn_on bs i unused c.loop-i-test.true c.if-values.false (next_is bs b (i + 1) unused w.if-i-records.true ∙ sym w.if-not-before.ensures)
-      | else-i-records-via-else-i-records w ↦ turn_on bs i unused c.loop-i-test.true c.if-values.false (next_none bs b (i + 1) w.if-i-records.false)
-    ]
-
-pub returns : goal.returns
-returns c = sym (c.loop-i.invariant ∙ at_drop_all bounds_lawful c.args.records.now c.loop-i.i c.loop-i-test.false)
+    let all : c.all.result ≡ list_all ranged bs = all_from_yields_List ranged _ _ c.all.result c.all.ensures.ran (YieldsList-from_slice bs cc) (λ x b q k. search (rules, tests)) in
+    c.if-all.false ∙ sym (lawful_else bs (sym all ∙ c.if-all.false))

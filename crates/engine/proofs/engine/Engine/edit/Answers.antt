@@ -1,8 +1,10 @@
-use Rattle.std.proofs.Common.{◌≡◌, ℕ, false, is_ok, Err, refl, ap, ◌∙◌, subst, arith, rules}
+use Rattle.std.proofs.Common.{◌≡◌, Ok, Err, refl, subst, rules}
 use Rattle.edit.specs.Lists.{ListRead}
 use Rattle.model.specs.Acts.{nodes_of}
 use Rattle.engine.specs.Seen.{seen}
 use Rattle.engine.proofs.Editing.{edits_refused, edits_done, edit_on, items_of}
+use Rattle.calls.specs.declared.faults.Refusal.{Refusal}
+use Rattle.engine.proofs.Refusing.{kept_ok}
 use Rattle.engine.proofs.engine.Engine.edit.Goals as goal
 
 pub returns-in_err-way : goal.returns-in_err-way
@@ -10,34 +12,29 @@ returns-in_err-way g c =
     let e = c.args.self.now in
     let m = seen g.D.Device.powered e in
     let f = c.in_err-way.field-0.0 in
-    let lost : c.from_residual.result ≡ Err f = search rules in
+    let l = c.in_ok-list.list in
+    let kept : c.read.result ≡ Ok l = kept_ok Refusal c.read.result _ l c.in_ok-list.ensures.variant c.in_ok-list.ensures.cases in
+    let lost : c.from_residual-in_err-way.result ≡ Err f = search rules in
     rw lost (record {
-      acts = (edits_refused (nodes_of e.schema) m c.args.session c.args.option c.args.items.now c.read-read.result c.is_ok.result f c.read-read.ensures c.is_ok.ensures.value c.in_err-way.ensures, refl);
+      acts = (edits_refused (nodes_of e.schema) m c.args.session c.args.option c.args.items.now l f (subst (ListRead c.args.items.now) kept c.read.ensures) c.in_err-way.ensures, refl);
       validator = refl;
       schema = refl;
     })
 
-pub returns-in-Ok : goal.returns-in-Ok
-returns-in-Ok g c =
+pub returns : goal.returns
+returns g c =
     let e = c.args.self.now in
     let m = seen g.D.Device.powered e in
+    let l = c.in_ok-list.list in
+    let kept : c.read.result ≡ Ok l = kept_ok Refusal c.read.result _ l c.in_ok-list.ensures.variant c.in_ok-list.ensures.cases in
     let way = c.in_ok-way.ensures in
-    let on = edit_on m c.args.session c.args.option c.is_ok.result way.0 in
     let did = c.edit_items.ensures in
     record {
       acts = (
-        edits_done (nodes_of e.schema) m c.args.session c.args.option c.args.items.now c.in-Ok.list c.is_ok.result c.in_ok-way.way _ _ (subst (ListRead c.args.items.now) c.in-Ok.is c.read-read.ensures) on.0 way.0 way.1
-            (items_of e.on (g.D.Device.powered e.device) e.schema c.in_ok-way.way _ m _ _ on.1 did.items),
+        edits_done (nodes_of e.schema) m c.args.session c.args.option c.args.items.now l c.in_ok-way.way _ _ (subst (ListRead c.args.items.now) kept c.read.ensures) way.0 way.1
+            (items_of e.on (g.D.Device.powered e.device) e.schema c.in_ok-way.way _ m _ _ (edit_on m c.args.session c.args.option way.0) did.items),
         did.device,
       );
       validator = did.validator;
       schema = did.schema;
     }
-
-pub returns-in-Err : goal.returns-in-Err
-returns-in-Err g c =
-    let m = seen g.D.Device.powered c.args.self.now in
-    let way = c.in_ok-way.ensures in
-    let on = edit_on m c.args.session c.args.option c.is_ok.result way.0 in
-    let no_list : c.is_ok.result ≡ false = c.is_ok.ensures.value ∙ ap is_ok c.in-Err.is in
-    absurd (let z : ◌≡◌ {A = ℕ} 0 1 = cc (on.0, no_list) in omega arith)
