@@ -30,7 +30,7 @@ impl<D: Device, V: Validator> Engine<D, V> {
         Ok(())
     }
 
-    // An edit list of these numbers may be performed: the error option, or why not.
+    // Whether the session may edit by this option: the error option, or why not.
     fn may_edit(&self, session: u32, option: u32) -> Result<ErrorOption, EngineFault>
         ensures { EditChecked (seen D.Device.powered self.now) session option true result }
     {
@@ -84,7 +84,7 @@ impl<D: Device, V: Validator> Engine<D, V> {
         Ok(())
     }
 
-    // A get of these numbers, into so many bytes, may be performed: the datastore, or why not.
+    // Whether the session may look at the datastore, with so many bytes of room: the datastore, or why not.
     fn may_get(&self, session: u32, datastore: u32, room: usize) -> Result<Datastore, EngineFault>
         ensures { GetChecked (seen D.Device.powered self.now) session datastore room result }
     {

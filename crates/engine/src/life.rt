@@ -4,7 +4,9 @@ ghost use Rattle.calls.specs.declared.call.Call.{Call};
 ghost use Rattle.config.specs.Configs.{used};
 ghost use Rattle.engine.specs.Checks.{FirstWrittenOn, Loaded, RecoveredOn};
 ghost use Rattle.engine.specs.Performing.{FormattedOn, New, PerformsOn};
-ghost use Rattle.std.specs.Prelude.{◌≡◌};
+ghost use Rattle.engine.specs.Seen.{device_of};
+ghost use Rattle.store.specs.Calls.{small};
+ghost use Rattle.std.specs.Prelude.{◌≡◌, if◌then◌else◌, Ok, Err};
 
 use crate::engine::Engine;
 use calls::{Answer, Call, EngineFault, Refusal};
@@ -47,14 +49,22 @@ impl<D: Device, V: Validator> Engine<D, V> {
         self.on = true;
     }
 
+    // The device has the blocks of a store.
+    fn check_room(&self) -> Result<(), StoreFault>
+        ensures { result ≡ (if small (D.Device.blocks (device_of self.now)) then Err StoreFault.TooSmall else Ok tt) }
+    {
+        if self.device.block_count() < BLOCKS {
+            return Err(StoreFault::TooSmall);
+        }
+        Ok(())
+    }
+
     // The validator says yes, the device is large enough, and it is written the first time.
     fn write_first(&mut self, config: Config) -> Result<(), EngineFault>
         ensures { FirstWrittenOn D.Device V.Validator (used config) self.old (answered result) self.new }
     {
         self.validator.check(&config)?;
-        if self.device.block_count() < BLOCKS {
-            return Err(StoreFault::TooSmall.into());
-        }
+        self.check_room()?;
         self.on = false;
         store::format(&mut self.device, &config)?;
         self.load(config);
@@ -74,9 +84,7 @@ impl<D: Device, V: Validator> Engine<D, V> {
     fn recover(&mut self, schema: &Schema) -> Result<(), EngineFault>
         ensures { RecoveredOn D.Device schema.now self.old (answered result) self.new }
     {
-        if self.device.block_count() < BLOCKS {
-            return Err(StoreFault::TooSmall.into());
-        }
+        self.check_room()?;
         self.on = false;
         let config = store::recover(&mut self.device, schema)?;
         self.load(config);

@@ -8,7 +8,7 @@ ghost use Rattle.model.specs.Model.{modified};
 ghost use Rattle.session.specs.Meaning.{event_of};
 ghost use Rattle.session.specs.Numbers.{datastore_number, number_of};
 ghost use Rattle.session.specs.Trials.{is_pending, owned_elsewhere, persist_differs};
-ghost use Rattle.std.specs.Prelude.{◌≡◌, ◌&&◌, ◌==◌};
+ghost use Rattle.std.specs.Prelude.{◌≡◌, ◌&&◌, ◌==◌, if◌then◌else◌, Ok, Err};
 
 use crate::engine::Engine;
 use calls::{Call, EngineFault, Refusal};
@@ -24,13 +24,22 @@ impl<D: Device, V: Validator> Engine<D, V> {
         self.on && self.device.is_on() && self.schema.is_ok()
     }
 
+    // The first refusal of every call: the engine is off.
+    fn check_on(&self) -> Result<(), Refusal>
+        ensures { result ≡ (if (seen D.Device.powered self.now).on then Ok tt else Err Refusal.EngineOff) }
+    {
+        if self.is_on() {
+            Ok(())
+        } else {
+            Err(Refusal::EngineOff)
+        }
+    }
+
     // The first refusal of every call to a session: the engine is off, or the session not open.
     pub(crate) fn check_open(&self, by: Session) -> Result<(), Refusal>
         ensures { refusal_of result ≡ open_refusal (seen D.Device.powered self.now) (number_of by) }
     {
-        if !self.is_on() {
-            return Err(Refusal::EngineOff);
-        }
+        self.check_on()?;
         if !self.sessions.is_open(by) {
             return Err(Refusal::SessionNotOpen);
         }
@@ -78,9 +87,7 @@ impl<D: Device, V: Validator> Engine<D, V> {
         ensures { PerformsOn D.Device V.Validator self.old (Call.Open session) (answered result) self.new }
     {
         let by = Session::try_from(session)?;
-        if !self.is_on() {
-            return Err(Refusal::EngineOff.into());
-        }
+        self.check_on()?;
         if self.sessions.is_open(by) {
             return Err(Refusal::SessionOpen.into());
         }
@@ -161,9 +168,7 @@ impl<D: Device, V: Validator> Engine<D, V> {
         if seconds > 1_000_000 {
             return Err(Refusal::TooManySeconds.into());
         }
-        if !self.is_on() {
-            return Err(Refusal::EngineOff.into());
-        }
+        self.check_on()?;
         self.happen(Event::Elapsed(seconds));
         Ok(())
     }
