@@ -8,7 +8,7 @@ use crate::entries::UNUSED;
 use schema::Path;
 use table::Slots;
 
-// A choice of paths. No closure: its caller would have to show that every call of it is allowed.
+// A choice of paths. No closure: a public function that takes one would ask its caller to show that every call of it is allowed.
 pub trait Choice {
     ghost chosen: { Self → Path → Bool };
 

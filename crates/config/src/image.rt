@@ -26,8 +26,8 @@ fn rise(entries: &[Entry]) -> bool
 }
 
 impl Config {
-    // Writes the image to the front of the output, and answers its length. An output that is too short for the image of any
-    // configuration has no room.
+    // Writes the image to the front of the output, and answers its length. An output has room with 769 bytes, the length of the
+    // largest image.
     pub fn encode(&self, out: &mut [u8]) -> Result<usize, NoRoom>
         ensures { Encoded (used self.now) out.old out.new result }
     {

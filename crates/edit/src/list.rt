@@ -31,6 +31,7 @@ impl EditList {
     pub fn read(form: &[u8]) -> Result<Self, ListFault>
         ensures { ListRead form.now result }
     {
+        // No heap: the items are read into a buffer, and their number comes beside it.
         let mut items = [UNUSED; 16];
         let count = encoding::decode(form, &mut items).ok_or(ListFault)?;
         Ok(EditList {

@@ -46,6 +46,7 @@ impl Operation {
 fn is_under(schema: &Schema, target: Path, path: Path) -> bool
     ensures { result ≡ under (nodes schema.now) target path }
 {
+    // Tried as `is_some_and`: what its closure answers stayed open.
     let Some(list) = schema.around(path) else {
         return false;
     };

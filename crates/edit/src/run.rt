@@ -84,7 +84,7 @@ pub fn edit(
 
 impl EditFault {
     // The refusal number of the item's fault, with its position, the number of items kept and the item's path. A method and no
-    // From, as of every fault.
+    // From: other faults have no report, or need a path for it.
     pub fn report(self) -> Report
         ensures { result ≡ fault_report self }
     {

@@ -15,7 +15,7 @@ pub struct Form {
 }
 
 impl Form {
-    // The form's bytes. A method and no From, as `from_bytes` is one.
+    // The form's bytes. A method and no From, which is no plainer: its name says what comes of a form.
     pub fn to_bytes(self) -> [u8; 16]
         ensures { result ≡ form_bytes self }
     {

@@ -69,7 +69,7 @@ const NUMBERS: [Numbered; 32] = [
     Numbered(37, Layer::Store),
 ];
 
-// The layer that the first row of this number has.
+// The layer that the first row of this number has. The table is the form that the project asks for here.
 fn look_up(rows: &[Numbered], number: u32) -> Option<Layer>
     ensures { result ≡ looked_up rows.now number }
 {
@@ -88,7 +88,7 @@ pub fn layer_of(number: u32) -> Option<Layer>
     look_up(&NUMBERS, number)
 }
 
-// The number of the layer of a refusal number, 0 where the number is no refusal number.
+// The number of the layer of a refusal number; 0 where the number is no refusal number, as a report tells it.
 fn layer_number(number: u32) -> u32
     ensures { result ≡ layer_at number }
 {

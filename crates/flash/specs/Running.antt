@@ -1,10 +1,15 @@
 -- Byte writes one after the other. Assumes nothing.
-use Rattle.std.specs.Prelude.{◌≡◌, ℕ, zero, suc, ◌+◌, ◌-◌, ◌<◌, ◌≤◌, Bool, true, false, List, [], ◌∷◌, ◌++◌, length, take, drop, slice_index, refl}
-use Rattle.std.proofs.Common.{sym, ap, subst, ◌∙◌, arith, zero-add, suc-add, length-append}
+use Rattle.std.specs.Prelude.{◌≡◌, ℕ, zero, suc, ◌+◌, ◌-◌, ◌<◌, ◌≤◌, Bool, true, false, ◌&&◌, Some, None, Option, List, [], ◌∷◌, ◌++◌, length, take, drop, slice_index, refl}
+use Rattle.std.proofs.Common.{eqb, sym, ap, subst, ◌∙◌, arith, zero-add, suc-add, length-append}
 use Rattle.std.proofs.lemmas.List.{drop_more, drop_all, take_all, take-append-le}
-use Rattle.supply.specs.Budget.{lasts, allowed, Asked}
+use Rattle.std.proofs.lemmas.Bool.{eqb-false, false≢true}
+use Rattle.supply.specs.Budget.{on_by, lasts_by, is_on, left_of, lasts, allowed, less, Spent, Asked}
+use Rattle.supply.specs.Writing.{ByteWrites}
+use Rattle.supply.specs.declared.Power.{Power}
+use Rattle.supply.specs.declared.Power.TheVariants.{Off, On}
 use Rattle.supply.specs.declared.Supply.{Supply}
-use Rattle.supply.proofs.Spending.{allowed_le, all_done as every, asked_none, asked_then, asked_ends, allowed_then, allowed_ends}
+use Rattle.supply.proofs.Spending.{allowed_le, all_done as every, asked_none, asked_then, asked_ends, allowed_then, allowed_ends, lasts_left}
+use Rattle.supply.proofs.Writes.{writes_on}
 use Rattle.flash.specs.Cell.{ByteWrite, erasing, programming, all_done, erases_from, programs_from}
 use Rattle.flash.specs.Cells.{done_append}
 use Rattle.flash.specs.Ran.{Ran}
@@ -74,3 +79,33 @@ nothing_left {a} {s} is = rw is (ran_none a s)
 pub ran_stops : {ws : List ByteWrite} (vs : List ByteWrite) {a b : List ℕ} {s p : Supply} {r : Bool} → r ≡ false → Ran ws a s r b p → Ran (ws ++ vs) a s r b p
 ran_stops {ws} vs {a} {b} {s} {p} {r} no' e =
     subst (λ (x : Bool). Ran (ws ++ vs) a s x b p) (sym no') (ran_ends vs (subst (λ (x : Bool). Ran ws a s x b p) no' e))
+
+-- of power that is on as many byte writes are asked as are spent, so with power on they run just where these hold
+lasts_off : (q : Power) → on_by q ≡ false → lasts_by q ≡ Some 0
+lasts_off Off off = refl
+lasts_off (On left) off = absurd (false≢true (sym off))
+
+none_less : (b : Option ℕ) (n : ℕ) → (allowed b n ≡ n → ⊥) → Some 0 ≡ less b n
+none_less None n short = absurd (short refl)
+none_less (Some m) n short = ap Some (omega (arith, short))
+
+asked_on : {n : ℕ} {s p : Supply} (r : Bool) → is_on s ≡ true → Spent n s r p → Asked n s r p
+asked_on {n} {s} {p} r on e =
+    let same : lasts s ≡ left_of s = lasts_left s on in
+    record {
+      done = e.done ∙ sym (ap (λ (b : Option ℕ). eqb (allowed b n) n) same);
+      on = e.on ∙ sym (ap (λ (b : Bool). b && r) on);
+      left = left r e ∙ sym (ap (λ (b : Option ℕ). less b n) same);
+      cuts = e.cuts;
+    }
+  where
+    left : {n : ℕ} {s p : Supply} (r : Bool) → Spent n s r p → lasts p ≡ less (left_of s) n
+    left {p} true e = lasts_left p e.on ∙ e.left refl
+    left {n} {s} {p} false e = lasts_off p.power e.on ∙ none_less (left_of s) n (eqb-false (allowed (left_of s) n) n (sym e.done))
+
+pub ran_on : {ws : List ByteWrite} {a b : List ℕ} {s p : Supply} {r : Bool} → is_on s ≡ true → Ran ws a s r b p → ByteWrites (length ws) (λ k. all_done (take k ws) a) s r b p
+ran_on on e = writes_on on e
+
+pub on_ran : {ws : List ByteWrite} {a b : List ℕ} {s p : Supply} {r : Bool} → is_on s ≡ true → ByteWrites (length ws) (λ k. all_done (take k ws) a) s r b p → Ran ws a s r b p
+on_ran {ws} {a} {s} {r} on e =
+    record { bytes = e.bytes ∙ sym (ap (λ (b : Option ℕ). all_done (take (allowed b (length ws)) ws) a) (lasts_left s on)); asked = asked_on r on e.spent }

@@ -45,6 +45,7 @@ fn program_cell(part: &mut [u8], payload: [u8; 32], supply: &mut Supply) -> bool
     requires { 33 ≤ length part.old }
     ensures { Ran (program_steps payload) part.old supply.old result part.new supply.new }
 {
+    // By index: of the slice behind a zipped `iter_mut` nothing is known in the end.
     for (i, byte) in payload.iter().enumerate() {
         if !program(&mut part[i], *byte, supply) {
             return false;

@@ -132,7 +132,8 @@ impl Schema {
 }
 
 impl SchemaFault {
-    // Refusal 11, with the bad node as node. A method and no From, as of every fault.
+    // Refusal 11, with the bad node as node. A method and no From: other faults have no report, or
+    // need a path for it.
     pub fn report(self) -> Report
         ensures { result ≡ at_path (plain 11) self.node 0 0 }
     {

@@ -1,12 +1,9 @@
 // Which keys and which value a path takes.
 ghost use Rattle.fault.specs.Reports.{at_path, plain};
-ghost use Rattle.schema.specs.Equal.{same_path};
 ghost use Rattle.schema.specs.Nodes.{nodes};
 ghost use Rattle.schema.specs.Paths.{around, entry_answer, fault_number, in_range, inside_keys, key_ranges, list_keys, list_range, path_answer, value_range};
 ghost use Rattle.schema.specs.Rows.{at};
-ghost use Rattle.std.specs.Prelude.{◌≡◌, Decides};
-ghost use Rattle.std.specs.Cmp.Rules.{comparing};
-ghost use Rattle.std.proofs.Common.{rules};
+ghost use Rattle.std.specs.Prelude.{◌≡◌};
 
 use crate::nodes::{ListNode, Node, Range, numbered};
 use crate::typed::Schema;
@@ -73,10 +70,10 @@ impl Schema {
     fn list_keys(&self, list: ListNode) -> (Range, Range)
         ensures { result ≡ list_keys (nodes self.now) list.parent list.keys }
     {
-        match list.parent {
-            Some(outer) => (self.list_range(outer), list.keys),
-            None => (list.keys, NONE),
-        }
+        list.parent.map_or(
+            (list.keys, NONE),
+            |outer| (self.list_range(outer), list.keys),
+        )
     }
 
     // The ranges of both keys inside an entry of the list of this number.
@@ -95,10 +92,9 @@ impl Schema {
     {
         match node {
             Node::List(list) => self.list_keys(list),
-            Node::Leaf(leaf) => match leaf.parent {
-                Some(list) => self.inside_keys(list),
-                None => (NONE, NONE),
-            },
+            Node::Leaf(leaf) => leaf
+                .parent
+                .map_or((NONE, NONE), |list| self.inside_keys(list)),
         }
     }
 

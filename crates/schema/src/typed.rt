@@ -13,7 +13,8 @@ pub struct Schema {
     ghost nested: { two_deep (items nodes) ≡ true },
 }
 
-// The first bad node of a schema, 0 where the number of nodes is wrong: a plain number, as the report tells it.
+// The first bad node of a schema, 0 where the number of nodes is wrong: a plain number, as the rules tell it, which the report and
+// every caller that looks at the field rely on.
 #[derive(Clone, Copy, PartialEq, Eq, Debug)]
 pub struct SchemaFault {
     pub node: u32,

@@ -87,7 +87,7 @@ impl Waiting {
 }
 
 impl Trial {
-    // What it means that a trial has come to this record by time or by a close.
+    // What time or a close meant, by the record after it: a trial that waits no longer reverted.
     fn outcome(self) -> Outcome
         ensures { result ≡ (if is_pending (trial_of self) then Outcome.Nothing else Outcome.Reverted) }
     {

@@ -30,7 +30,7 @@ impl TryFrom<u32> for Session {
 }
 
 impl Session {
-    // A method and no From, as of datastores.
+    // A method and no From, which is no plainer: the conversion is a cast alone.
     pub fn number(self) -> u32
         ensures { result ≡ number_of self }
     {

@@ -28,14 +28,14 @@ impl Trial {
         self.0?.owner
     }
 
-    // The trial's persist number.
+    // The trial's persist number; 0 without a trial, as it is told.
     pub fn persist(&self) -> u32
         ensures { result ≡ (trial_of self.now).persist }
     {
         self.0.map_or(0, |waiting| waiting.persist)
     }
 
-    // The seconds left.
+    // The seconds left; 0 without a trial, as they are told.
     pub fn seconds(&self) -> u32
         ensures { result ≡ (trial_of self.now).seconds }
     {

@@ -4,7 +4,8 @@ ghost use Rattle.std.specs.Prelude.{◌≡◌, true, length};
 
 use crate::session::Session;
 
-// Which sessions are open, session 1 in the first place, and which session holds the lock of each datastore.
+// Which sessions are open, session 1 in the first place, and which session holds the lock of each datastore. No heap: a mark for
+// each of the eight.
 #[derive(Clone, Copy)]
 pub struct Sessions {
     pub(crate) open: [bool; 8],

@@ -69,6 +69,7 @@ fn redo<D: Device>(device: &mut D, targets: Targets) -> Result<(), StoreFault>
     ensures { RedoneOn D.Device (listed targets) device.old result device.new }
 {
     let count = targets.blocks.as_slice().len();
+    // No heap: the records are read into a buffer, and their number comes beside it.
     let mut rows = [EMPTY; HOMES];
     read_run(device, FIRST_RECORD, &mut rows[..count])?;
     let rows = Slots::first(rows, count);

@@ -11,7 +11,7 @@ use std::alloc::{AllocError, Global};
 // More byte writes than any trial has.
 const LASTING: u32 = 1_000_000;
 
-// An image of so many bytes, each power-up of which lasts so many byte writes.
+// An image of so many bytes: each power-up lasts as many byte writes as the next of the cuts says.
 pub(crate) fn image(heap: Global, bytes: usize, cuts: &[u32]) -> Result<Image, AllocError> {
     Ok(Image::new(vec![in heap; 0; bytes]?, cuts.to_vec(heap)?))
 }

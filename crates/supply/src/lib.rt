@@ -37,10 +37,7 @@ impl Supply {
     pub fn is_on(&self) -> bool
         ensures { result ≡ is_on self.now }
     {
-        match self.power {
-            Power::Off => false,
-            Power::On(_) => true,
-        }
+        matches!(self.power, Power::On(_))
     }
 
     // Power-up, under the next cut count if one is left.
@@ -70,7 +67,7 @@ impl Supply {
         }
     }
 
-    // One byte write to a slot: done where power lasts for it; else power is off afterwards and the slot is as it was.
+    // One byte write to a slot, answered as `spend` does, and no Result, since only power can fail it: done where power lasts for it; else power is off afterwards and the slot is as it was.
     pub fn write(&mut self, slot: &mut u8, byte: u8) -> bool
         ensures slot { slot.new ≡ cond result byte slot.old }
         ensures power { Asked 1 self.old result self.new }
@@ -88,7 +85,7 @@ impl Supply {
         ensures { Asks (min (length bytes.now) (length part.old)) (λ k. written k bytes.now part.old) self.old result part.new self.new }
     {
         let fitting = &bytes[..bytes.len().min(part.len())];
-        // Tried with a zip: of the slice behind a zipped `iter_mut` it stayed open what it is in the end.
+        // By index: of the slice behind a zipped `iter_mut` nothing is known in the end.
         for (i, byte) in fitting.iter().enumerate() {
             if !self.write(&mut part[i], *byte) {
                 return false;

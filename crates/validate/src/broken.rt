@@ -32,7 +32,8 @@ pub struct Broken {
 }
 
 impl Broken {
-    // Refusal 29, with the rule as cause, at the path. A method and no From, as of every fault.
+    // Refusal 29, with the rule as cause, at the path. A method and no From: other faults have no report, or
+    // need a path for it.
     pub fn report(self) -> Report
         ensures { result ≡ at_path (because (plain 29) (rule_number self.rule)) self.path.node self.path.k1 self.path.k2 }
     {

@@ -71,6 +71,9 @@ fn over(maximum: Option<u32>, count: usize) -> bool
     maximum.is_some_and(|most| count > most as usize)
 }
 
+// Each function that calls a test asks that it may always be called, as the language wants it of a closure, and says what comes of
+// it for the function of paths that the test computes.
+
 // The lowest path so far that passes the test, with one more path.
 fn lower<F: Fn(Path) -> bool>(test: &F, so_far: Option<Path>, path: Path) -> Option<Path>
     requires { F.IsAlwaysCallable test.now }
