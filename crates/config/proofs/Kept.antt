@@ -1,35 +1,23 @@
 -- Entries that are kept by their paths.
-use Rattle.std.proofs.Common.{◌≡◌, ℕ, ◌+◌, ◌<◌, ◌≤◌, Bool, true, false, cond, List, [], ◌∷◌, ◌++◌, length, get_or, take, filter, Ok, Err, Result, sym, refl, ap, ◌∙◌, subst, arith}
-use Rattle.std.proofs.lemmas.List.{append-nil, length-take-le, take_all}
+use Rattle.std.proofs.Common.{◌≡◌, ℕ, ◌+◌, ◌<◌, ◌≤◌, Bool, true, false, cond, List, [], ◌∷◌, ◌++◌, length, get_or, take, set, filter, sym, refl, ap, ◌∙◌, subst}
+use Rattle.std.proofs.lemmas.List.{append-nil, take_all, take_more_set}
 use Rattle.std.proofs.lemmas.List.Elements.{filter_more}
-use Rattle.std.proofs.lemmas.List.Sums.{count_by-le-length, length-filter}
-use Rattle.table.specs.declared.slots.Slots.{Slots}
-use Rattle.table.specs.Slots.{items, Pushed}
 use Rattle.table.proofs.Rows.{lookup_kept, rising_kept}
 use Rattle.schema.specs.declared.path.Path.{Path}
 use Rattle.config.specs.declared.entry.Entry.{Entry}
 use Rattle.config.specs.Order.{path_sooner, rising}
 use Rattle.config.specs.Configs.{Retained, path_of, used}
 use Rattle.config.specs.declared.config.Config.{Config}
-use Rattle.config.proofs.Places.{used_few}
 use Rattle.config.proofs.Order.{total, rises, rising_from}
 
 module _ (f : Path → Bool) where
   -- one more entry that is chosen, or is not
-  pub kept_yes : {E : Type 0} (c : Config) (xs : List Entry) (i : ℕ) (d : Entry) (s t : Slots Entry 48) (r : Result Unit E) → xs ≡ used c → i < length xs → f (get_or xs i d).path ≡ true → items s ≡ filter (λ (e : Entry). f e.path) (take i (used c)) → Pushed s (get_or xs i d) t r → items t ≡ filter (λ (e : Entry). f e.path) (take (i + 1) (used c))
-  kept_yes c xs i d s t (Ok done) are lt here inv h =
-      h.1 ∙ ap (λ l. l ++ (get_or xs i d ∷ [])) (inv ∙ ap (λ l. filter (λ (e : Entry). f e.path) (take i l)) (sym are))
+  pub kept_yes : (c : Config) (xs : List Entry) (i : ℕ) (d : Entry) (ys : List Entry) (n : ℕ) → xs ≡ used c → i < length xs → f (get_or xs i d).path ≡ true → n < length ys → take n ys ≡ filter (λ (e : Entry). f e.path) (take i (used c)) → take (n + 1) (set ys n (get_or xs i d)) ≡ filter (λ (e : Entry). f e.path) (take (i + 1) (used c))
+  kept_yes c xs i d ys n are lt here room inv =
+      take_more_set ys n (get_or xs i d) room
+      ∙ ap (λ l. l ++ (get_or xs i d ∷ [])) (inv ∙ ap (λ l. filter (λ (e : Entry). f e.path) (take i l)) (sym are))
       ∙ sym (filter_more (λ (e : Entry). f e.path) xs i d lt ∙ ap (λ b. filter (λ (e : Entry). f e.path) (take i xs) ++ cond b (get_or xs i d ∷ []) []) here)
       ∙ ap (λ l. filter (λ (e : Entry). f e.path) (take (i + 1) l)) are
-  kept_yes c xs i d s t (Err full) are lt here inv h =
-      let many : length (filter (λ (e : Entry). f e.path) (take i (used c))) ≡ 48 = sym (ap length inv) ∙ h.0 in
-      let size = length-filter (λ (e : Entry). f e.path) (take i (used c)) in
-      let at_most = count_by-le-length (λ (e : Entry). f e.path) (take i (used c)) in
-      let few = used_few c in
-      let long : length xs ≡ length (used c) = ap length are in
-      let part = length-take-le i (used c) (omega arith) in
-      let never : ⊥ = omega arith in
-      absurd never
 
   pub kept_no : (c : Config) (xs : List Entry) (i : ℕ) (d : Entry) (kept : List Entry) → xs ≡ used c → i < length xs → f (get_or xs i d).path ≡ false → kept ≡ filter (λ (e : Entry). f e.path) (take i (used c)) → kept ≡ filter (λ (e : Entry). f e.path) (take (i + 1) (used c))
   kept_no c xs i d kept are lt left inv =

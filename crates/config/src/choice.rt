@@ -21,13 +21,16 @@ impl Config {
     pub fn retain<C: Choice>(&mut self, choice: &C)
         ensures { Retained (C.Choice.chosen choice.now) (used self.old) (used self.new) }
     {
-        let mut kept = Slots::new(UNUSED);
+        // No list is filled by `push`: its count, kept in memory, made this the slowest part of an edit.
+        let mut kept = [UNUSED; 48];
+        let mut count = 0;
         for entry in self.entries() {
             if choice.keeps(entry.path) {
-                // There is room: no more are kept than there were.
-                let _ = kept.push(*entry);
+                kept[count] = *entry;
+                count += 1;
             }
         }
-        *self = Config { table: kept };
+        let table = Slots::first(kept, count);
+        *self = Config { table };
     }
 }

@@ -60,7 +60,12 @@ pub fn replace<D: Device>(device: &mut D, old: &Config, new: &Config) -> Result<
     ensures { ReplacedOn D.Device device.old (used old.now) (used new.now) result device.new }
 {
     has_room(device)?;
-    commit(device, &changed(&pages(old), &pages(new)))?;
+    let before = pages(old);
+    let after = pages(new);
+    if before == after {
+        return Ok(());
+    }
+    commit(device, &changed(&before, &after))?;
     Ok(())
 }
 

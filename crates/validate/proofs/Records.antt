@@ -1,13 +1,14 @@
 -- Required values: their order, and the test of it.
-use Rattle.std.proofs.Common.{◌≡◌, ℕ, zero, suc, ◌+◌, ◌<◌, ◌≤◌, Bool, true, false, ◌&&◌, leb, List, [], ◌∷◌, length, get_or, sym, refl, ap, ◌∙◌, subst, not-suc-le-zero, arith}
-use Rattle.std.proofs.lemmas.Bool.{and_parts, and_from, and_left, and_right, leb-true, le-leb}
-use Rattle.std.specs.List.{list_all, AllAdjacentBelow, IsAllAdjacentAnswer}
+use Rattle.std.proofs.Common.{◌≡◌, ℕ, zero, suc, ◌+◌, ◌-◌, ◌<◌, ◌≤◌, Bool, true, false, ◌&&◌, leb, List, [], ◌∷◌, length, get_or, None, Some, Option, Bor, slice_get, MatchOption, sym, refl, ap, ◌∙◌, subst, not-suc-le-zero, arith}
+use Rattle.std.proofs.lemmas.Bool.{and_parts, and_from, and_right, leb-true, le-leb, false≢true}
+use Rattle.std.specs.List.{AllAdjacentBelow, IsAllAdjacentAnswer}
+use Rattle.std.specs.Option.{option_copied}
 use Rattle.table.specs.Table.{Rising}
 use Rattle.table.proofs.Rows.{rising_cons, rising_head, rising_tail, greater_cons, greater_far}
 use Rattle.config.specs.Order.{path_sooner}
 use Rattle.config.proofs.Order.{total}
 use Rattle.validate.specs.declared.bound.Bound.{Bound}
-use Rattle.validate.specs.Bounds.{bound_path, before_next, bounds_lawful, Listed}
+use Rattle.validate.specs.Bounds.{bound_path, before_next, bounds_lawful, ranged, Listed}
 
 parts : (b : Bound) (rest : List Bound) → bounds_lawful (b ∷ rest) ≡ true → (leb b.values.lo b.values.hi ≡ true) × (before_next b rest ≡ true) × (bounds_lawful rest ≡ true)
 parts b rest h =
@@ -43,49 +44,69 @@ lawful_from (b ∷ rest) up each =
 pub listed : (bs : List Bound) → length bs ≤ 8 → bounds_lawful bs ≡ true → Listed bs
 listed bs few h = record { few = few; rises = rises bs h; ranges = ranges bs h }
 
--- ---- the test of records: each range, and then each path against the next one
-abbrev pub ranged : Bound → Bool
-ranged b = leb b.values.lo b.values.hi
+-- ---- the test of records: each range and its path against the next one, and then the last range
+abbrev pub step : Bound → Bound → Bool
+step a b = ranged a && path_sooner a.path b.path
 
-abbrev climbs : List Bound → Bool
-climbs [] = true
-climbs (b ∷ rest) = before_next b rest && climbs rest
+abbrev last_ranged : List Bound → Bool
+last_ranged [] = true
+last_ranged (b ∷ []) = ranged b
+last_ranged (b ∷ (c ∷ rest)) = last_ranged (c ∷ rest)
 
-both_ands : (a b c d : Bool) → (a && (b && (c && d))) ≡ ((a && c) && (b && d))
-both_ands true true c d = refl
-both_ands true false true d = refl
-both_ands true false false d = refl
-both_ands false b c d = refl
+alone : (a : Bool) → (a && (true && true)) ≡ a
+alone true = refl
+alone false = refl
 
-lawful_parts : (bs : List Bound) → bounds_lawful bs ≡ (list_all ranged bs && climbs bs)
-lawful_parts [] = refl
-lawful_parts (b ∷ rest) =
-    ap (λ t. ranged b && (before_next b rest && t)) (lawful_parts rest) ∙ both_ands (ranged b) (before_next b rest) (list_all ranged rest) (climbs rest)
+both_so : (a b c : Bool) → true ≡ (a && b) → (a && (b && c)) ≡ c
+both_so true true c h = refl
+both_so true false c h = cc
+both_so false b c h = cc
+
+one_not : (a b c : Bool) → false ≡ (a && b) → (a && (b && c)) ≡ false
+one_not true true c h = cc
+one_not true false c h = refl
+one_not false b c h = refl
 
 -- a place of the rest is the next place of the whole
-in_rest : (v : Bool) (b : Bound) (rest : List Bound) (k : ℕ) (d : Bound) → v ≡ path_sooner (get_or (b ∷ rest) (suc k) d).path (get_or (b ∷ rest) (suc k + 1) d).path → v ≡ path_sooner (get_or rest k d).path (get_or rest (k + 1) d).path
+in_rest : (v : Bool) (b : Bound) (rest : List Bound) (k : ℕ) (d : Bound) → v ≡ step (get_or (b ∷ rest) (suc k) d) (get_or (b ∷ rest) (suc k + 1) d) → v ≡ step (get_or rest k d) (get_or rest (k + 1) d)
 in_rest v b rest k d h =
     let next : suc k + 1 ≡ suc (k + 1) = omega arith in
-    subst (λ n. v ≡ path_sooner (get_or rest k d).path (get_or (b ∷ rest) n d).path) next h
+    subst (λ n. v ≡ step (get_or rest k d) (get_or (b ∷ rest) n d)) next h
 
-all_climb : (bs : List Bound) → AllAdjacentBelow (λ x y. true ≡ path_sooner x.path y.path) bs (length bs) → climbs bs ≡ true
-all_climb [] h = refl
-all_climb (b ∷ []) h = refl
-all_climb (b ∷ (c ∷ rest)) h =
-    and_from _ _ (sym (h 0 b (omega arith))) (all_climb (c ∷ rest) (λ k d lt. in_rest true b (c ∷ rest) k d (h (suc k) d (omega arith))))
+all_step : (bs : List Bound) → AllAdjacentBelow (λ x y. true ≡ step x y) bs (length bs) → bounds_lawful bs ≡ last_ranged bs
+all_step [] h = refl
+all_step (b ∷ []) h = alone (ranged b)
+all_step (b ∷ (c ∷ rest)) h =
+    both_so (ranged b) (path_sooner b.path c.path) _ (h 0 b (omega arith)) ∙ all_step (c ∷ rest) (λ k d lt. in_rest true b (c ∷ rest) k d (h (suc k) d (omega arith)))
 
-one_falls : (bs : List Bound) (k : ℕ) → k + 1 < length bs → ((d : Bound) → false ≡ path_sooner (get_or bs k d).path (get_or bs (k + 1) d).path) → climbs bs ≡ false
-one_falls [] k lt h = absurd (omega arith)
-one_falls (b ∷ []) k lt h = absurd (omega arith)
-one_falls (b ∷ (c ∷ rest)) zero lt h = and_left _ _ (sym (h b))
-one_falls (b ∷ (c ∷ rest)) (suc k) lt h = and_right _ _ (one_falls (c ∷ rest) k (omega arith) (λ d. in_rest false b (c ∷ rest) k d (h d)))
+one_stops : (bs : List Bound) (k : ℕ) → k + 1 < length bs → ((d : Bound) → false ≡ step (get_or bs k d) (get_or bs (k + 1) d)) → bounds_lawful bs ≡ false
+one_stops [] k lt h = absurd (omega arith)
+one_stops (b ∷ []) k lt h = absurd (omega arith)
+one_stops (b ∷ (c ∷ rest)) zero lt h = one_not (ranged b) (path_sooner b.path c.path) _ (h b)
+one_stops (b ∷ (c ∷ rest)) (suc k) lt h =
+    and_right _ _ (and_right _ _ (one_stops (c ∷ rest) k (omega arith) (λ d. in_rest false b (c ∷ rest) k d (h d))))
 
-climbs_is : (bs : List Bound) (s : Bool) → IsAllAdjacentAnswer (λ x y b. b ≡ path_sooner x.path y.path) bs s → s ≡ climbs bs
-climbs_is bs true h = sym (all_climb bs h)
-climbs_is bs false h = sym (one_falls bs h.0 h.1 h.2)
+abbrev pub if_ranged : Option Bound → Bool
+if_ranged None = true
+if_ranged (Some b) = ranged b
 
-pub lawful_then : (bs : List Bound) (s : Bool) → list_all ranged bs ≡ true → IsAllAdjacentAnswer (λ x y b. b ≡ path_sooner x.path y.path) bs s → s ≡ bounds_lawful bs
-lawful_then bs s all h = climbs_is bs s h ∙ sym (lawful_parts bs ∙ ap (λ t. t && climbs bs) all)
+last_is : (bs : List Bound) → if_ranged (slice_get bs (length bs - 1)) ≡ last_ranged bs
+last_is [] = refl
+last_is (b ∷ []) = let z : length (b ∷ []) - 1 ≡ 0 = omega arith in ap (λ (n : ℕ). if_ranged (slice_get (b ∷ []) n)) z
+last_is (b ∷ (c ∷ rest)) =
+    let here : length (b ∷ (c ∷ rest)) - 1 ≡ suc (length rest) = omega arith in
+    let there : length rest ≡ length (c ∷ rest) - 1 = omega arith in
+    ap (λ (n : ℕ). if_ranged (slice_get (b ∷ (c ∷ rest)) n)) here ∙ ap (λ (n : ℕ). if_ranged (slice_get (c ∷ rest) n)) there ∙ last_is (c ∷ rest)
 
-pub lawful_else : (bs : List Bound) → list_all ranged bs ≡ false → bounds_lawful bs ≡ false
-lawful_else bs none = lawful_parts bs ∙ ap (λ t. t && climbs bs) none
+-- what is said of the last record, where there is one
+pub last_told : (o : Option (Bor Bound)) (r : Bool) → MatchOption o (r ≡ true) (λ b. r ≡ ranged b.now) → r ≡ if_ranged (option_copied o)
+last_told None r h = h
+last_told (Some b) r h = h
+
+pub lawful_then : (bs : List Bound) (s : Bool) → s ≡ true → IsAllAdjacentAnswer (λ x y b. b ≡ step x y) bs s → if_ranged (slice_get bs (length bs - 1)) ≡ bounds_lawful bs
+lawful_then bs true y h = last_is bs ∙ sym (all_step bs h)
+lawful_then bs false y h = absurd (false≢true y)
+
+pub lawful_else : (bs : List Bound) (s : Bool) → s ≡ false → IsAllAdjacentAnswer (λ x y b. b ≡ step x y) bs s → bounds_lawful bs ≡ false
+lawful_else bs true n h = absurd (false≢true (sym n))
+lawful_else bs false n h = one_stops bs h.0 h.1 h.2

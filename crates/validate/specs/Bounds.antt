@@ -20,6 +20,10 @@ abbrev pub before_next : Bound → List Bound → Bool
 before_next b [] = true
 before_next b (c ∷ rest) = path_sooner b.path c.path
 
+-- the range of the values is not empty
+abbrev pub ranged : Bound → Bool
+ranged b = nat_le b.values.lo b.values.hi
+
 -- each path comes before the next one, and no range is empty
 abbrev pub bounds_lawful : List Bound → Bool
 bounds_lawful [] = true

@@ -1,7 +1,7 @@
 // What is required at one path.
 ghost use Rattle.config.specs.Configs.{used};
 ghost use Rattle.config.specs.Order.{path_sooner};
-ghost use Rattle.validate.specs.Bounds.{bounds_lawful, met};
+ghost use Rattle.validate.specs.Bounds.{ranged, bounds_lawful, met};
 ghost use Rattle.std.specs.Prelude.{◌≡◌};
 ghost use Rattle.std.proofs.Common.{rules};
 
@@ -40,6 +40,13 @@ impl Record for Bound {
 }
 
 impl Bound {
+    // The range of its values is not empty.
+    fn has_values(&self) -> bool
+        ensures { result ≡ ranged self.now }
+    {
+        self.values.lo <= self.values.hi
+    }
+
     // The path is present with a value in the range.
     pub(crate) fn is_met(self, config: &Config) -> bool
         ensures { result ≡ met (used config.now) self }
@@ -51,12 +58,10 @@ impl Bound {
     }
 }
 
-// Each path comes before the next one, and no range is empty.
+// Each path comes before the next one, and no range is empty. In one pass, which ends at the first record that is at fault.
 pub(crate) fn lawful(records: &[Bound]) -> bool
     ensures { result ≡ bounds_lawful records.now }
 {
-    records
-        .iter()
-        .all(|record| record.values.lo <= record.values.hi)
-        && records.is_sorted_by(|a, b| a.path < b.path)
+    records.is_sorted_by(|a, b| a.has_values() && a.path < b.path)
+        && records.last().is_none_or(|last| last.has_values())
 }
