@@ -5,14 +5,15 @@ use Rattle.std.proofs.lemmas.Bool.{cases_lt}
 use Rattle.supply.specs.Budget.{lasts, allowed, Asked}
 use Rattle.supply.specs.Writing.{Asks, written}
 use Rattle.supply.specs.declared.Supply.{Supply}
-use Rattle.supply.proofs.Spending.{allowed_le, all_done as every, not_all}
+use Rattle.supply.proofs.Asking.{all_done as every, not_all}
+use Rattle.supply.proofs.Spending.{allowed_le}
 use Rattle.supply.proofs.Writes.{written_below, written_above, length_written, one_more, ends_here}
 use Rattle.flash.specs.Cell.{ByteWrite, erasing, programming, one_done, all_done, erases_from, programs_from, program_steps}
 use Rattle.flash.specs.Cells.{done_append, length_done, length_programs, elsewhere, erased_at, erases_off}
-use Rattle.flash.specs.Ran.{Ran}
+use Rattle.flash.specs.Ran.{RanAsked}
 
 -- one byte write to its slot, which power lasts for or not
-pub ran_one : {w : ByteWrite} {c : List ℕ} {v : ℕ} {s p : Supply} {r : Bool} (i x : ℕ) → one_done w c ≡ set c i x → v ≡ cond r x (get_or c i 0) → Asked 1 s r p → Ran (w ∷ []) c s r (set c i v) p
+pub ran_one : {w : ByteWrite} {c : List ℕ} {v : ℕ} {s p : Supply} {r : Bool} (i x : ℕ) → one_done w c ≡ set c i x → v ≡ cond r x (get_or c i 0) → Asked 1 s r p → RanAsked (w ∷ []) c s r (set c i v) p
 ran_one {w} {c} {v} {s} {p} {r = true} i x is e one =
     record { bytes = ap (set c i) e ∙ sym is ∙ ap (λ (k : ℕ). all_done (take k (w ∷ [])) c) (sym (every one)); asked = one }
 ran_one {w} {c} {v} {s} {p} {r = false} i x is e one =
@@ -39,7 +40,7 @@ module _ (new c : List ℕ) (size : length new ≡ 32) (each : (j : ℕ) → j <
       (cases_lt j k))
       ∙ sym t
 
-  pub ran_erases : {s p : Supply} {r : Bool} {now : List ℕ} → Asks (min 32 (length c)) (λ k. written k new c) s r now p → Ran (erases_from 0 32) c s r now p
+  pub ran_erases : {s p : Supply} {r : Bool} {now : List ℕ} → Asks (min 32 (length c)) (λ k. written k new c) s r now p → RanAsked (erases_from 0 32) c s r now p
   ran_erases {s} {p} {r} {now} asks =
       let all : min 32 (length c) ≡ 32 = omega arith in
       let e : Asks 32 (λ k. written k new c) s r now p = subst (λ (n : ℕ). Asks n (λ k. written k new c) s r now p) all asks in
@@ -80,15 +81,15 @@ module _ (payload c : List ℕ) (size : length payload ≡ 32) where
   programs_on {k} {v} {now} h u is one =
       one_more u one (λ so_far. ap (set now k) is ∙ ap (λ (x : List ℕ). set x k (bit_and (get_or x k 0) (get_or payload k 0))) so_far ∙ sym (payload_step k h))
 
-  all_of : {s p : Supply} {r : Bool} {now : List ℕ} → Programmed 33 s r now p → Ran (program_steps payload) c s r now p
+  all_of : {s p : Supply} {r : Bool} {now : List ℕ} → Programmed 33 s r now p → RanAsked (program_steps payload) c s r now p
   all_of {s} {p} {r} {now} e = subst (λ (n : ℕ). Programmed n s r now p) (sym length_program) e
 
-  pub program_ends : {k v : ℕ} {now : List ℕ} {s p q : Supply} → k < 33 → Programmed k s true now p → v ≡ get_or now k 0 → Asked 1 p false q → Ran (program_steps payload) c s false (set now k v) q
+  pub program_ends : {k v : ℕ} {now : List ℕ} {s p q : Supply} → k < 33 → Programmed k s true now p → v ≡ get_or now k 0 → Asked 1 p false q → RanAsked (program_steps payload) c s false (set now k v) q
   program_ends {k} {now} h u is one = all_of (ends_here h u one (ap (set now k) is ∙ set-get_or now k 0))
 
-  pub mark_ran : {k v : ℕ} {now : List ℕ} {s p q : Supply} {r : Bool} → k ≡ 32 → Programmed k s true now p → v ≡ cond r (bit_and (get_or now 32 0) 0) (get_or now 32 0) → Asked 1 p r q → Ran (program_steps payload) c s r (set now 32 v) q
+  pub mark_ran : {k v : ℕ} {now : List ℕ} {s p q : Supply} {r : Bool} → k ≡ 32 → Programmed k s true now p → v ≡ cond r (bit_and (get_or now 32 0) 0) (get_or now 32 0) → Asked 1 p r q → RanAsked (program_steps payload) c s r (set now 32 v) q
   mark_ran {now} {s} {p} {r} all u = marked r (subst (λ (n : ℕ). Programmed n s true now p) all u)
     where
-      marked : {v : ℕ} {now : List ℕ} {s p q : Supply} (r : Bool) → Programmed 32 s true now p → v ≡ cond r (bit_and (get_or now 32 0) 0) (get_or now 32 0) → Asked 1 p r q → Ran (program_steps payload) c s r (set now 32 v) q
+      marked : {v : ℕ} {now : List ℕ} {s p q : Supply} (r : Bool) → Programmed 32 s true now p → v ≡ cond r (bit_and (get_or now 32 0) 0) (get_or now 32 0) → Asked 1 p r q → RanAsked (program_steps payload) c s r (set now 32 v) q
       marked {now} true u is one = all_of (one_more u one (λ so_far. ap (set now 32) is ∙ ap (λ (x : List ℕ). set x 32 (bit_and (get_or x 32 0) 0)) so_far ∙ sym mark_step))
       marked false u is one = program_ends (omega arith) u is one

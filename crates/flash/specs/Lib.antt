@@ -4,3 +4,4 @@ pub mod Steps
 pub mod Rule
 pub mod Cells
 pub mod Running
+pub mod Asking

@@ -13,9 +13,9 @@ use Rattle.supply.proofs.Writes.{writes_on}
 use Rattle.cells.specs.Layout.{Lawful}
 use Rattle.cells.specs.Rule as cells
 use Rattle.cells.specs.declared.Cells.{Cells}
-use Rattle.flash.specs.Cell.{blocks_of, all_done, steps, cell_after, bytes_after, flash_layout}
+use Rattle.flash.specs.Cell.{blocks_of, steps, cell_after, bytes_after, flash_layout}
 use Rattle.flash.specs.Cells.{length_steps, tears, confined}
-use Rattle.flash.specs.Ran.{Ran}
+use Rattle.flash.specs.Ran.{Ran, RanAsked}
 use Rattle.flash.specs.Steps.{flash_blocks, flash_on, FlashWrites, FlashReads}
 use Rattle.flash.specs.declared.Marked.{Marked}
 
@@ -34,12 +34,12 @@ module _ (bytes : List ℕ) (i : ℕ) (payload : List ℕ) (size : length payloa
   rest = take (length bytes - 33 * i) (drop (33 * i) bytes)
 
   -- where as many byte writes are done as power that is on lasts for
-  pub exact_here : (s : Supply) (r : Bool) (part : List ℕ) (p : Supply) → ByteWrites (length (steps payload)) (λ k. all_done (take k (steps payload)) rest) s r part p → ByteWrites 66 (λ k. bytes_after k bytes i payload) s r (put_mid (33 * i) (length bytes - 33 * i) bytes part) p
+  pub exact_here : (s : Supply) (r : Bool) (part : List ℕ) (p : Supply) → Ran (steps payload) rest s r part p → ByteWrites 66 (λ k. bytes_after k bytes i payload) s r (put_mid (33 * i) (length bytes - 33 * i) bytes part) p
   exact_here s r part p e =
       cells.exact_here flash_layout bytes i payload 66 (omega arith) s r part p (subst (λ (m : ℕ). ByteWrites m (λ k. cell_after k rest payload) s r part p) (length_steps payload size) e)
 
   -- so it is where they run with power on
-  pub ran_here : (s : Supply) (r : Bool) (part : List ℕ) (p : Supply) → is_on s ≡ true → Ran (steps payload) rest s r part p → ByteWrites 66 (λ k. bytes_after k bytes i payload) s r (put_mid (33 * i) (length bytes - 33 * i) bytes part) p
+  pub ran_here : (s : Supply) (r : Bool) (part : List ℕ) (p : Supply) → is_on s ≡ true → RanAsked (steps payload) rest s r part p → ByteWrites 66 (λ k. bytes_after k bytes i payload) s r (put_mid (33 * i) (length bytes - 33 * i) bytes part) p
   ran_here s r part p on e = exact_here s r part p (writes_on on e)
 
 -- what the bytes' equation comes to for the blocks

@@ -5,7 +5,7 @@
 ghost use Rattle.std.specs.Prelude.{◌≡◌, ◌≤◌, ℕ, List, length, bit_and, cond, Result, refl};
 ghost use Rattle.supply.specs.Budget.{Asked};
 ghost use Rattle.flash.specs.Cell.{erase_steps, program_steps, flash_layout, EveryCut, InOrder};
-ghost use Rattle.flash.specs.Ran.{Ran};
+ghost use Rattle.flash.specs.Ran.{RanAsked};
 ghost use Rattle.flash.specs.Rule as rule;
 ghost use Rattle.flash.specs.Steps.{flash_blocks, flash_on, FlashRaises, FlashReads, FlashWrites};
 ghost use Rattle.flash.specs.declared.Marked.{Marked};
@@ -26,7 +26,7 @@ const WRITTEN: u8 = 0x00;
 // Erases the cell at the front of `part`, the mark first, until power fails.
 fn erase_cell(part: &mut [u8], supply: &mut Supply) -> bool
     requires { 33 ≤ length part.old }
-    ensures { Ran erase_steps part.old supply.old result part.new supply.new }
+    ensures { RanAsked erase_steps part.old supply.old result part.new supply.new }
 {
     supply.write(&mut part[MARK], ERASED) && supply.write_all(part, &[ERASED; MARK])
 }
@@ -43,7 +43,7 @@ fn program(slot: &mut u8, byte: u8, supply: &mut Supply) -> bool
 // Programs the cell at the front of `part`, the mark last, until power fails.
 fn program_cell(part: &mut [u8], payload: [u8; 32], supply: &mut Supply) -> bool
     requires { 33 ≤ length part.old }
-    ensures { Ran (program_steps payload) part.old supply.old result part.new supply.new }
+    ensures { RanAsked (program_steps payload) part.old supply.old result part.new supply.new }
 {
     // By index: of the slice behind a zipped `iter_mut` nothing is known in the end.
     for (i, byte) in payload.iter().enumerate() {

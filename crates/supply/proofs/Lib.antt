@@ -1,4 +1,5 @@
 pub mod Spending
+pub mod Asking
 pub mod Cells
 pub mod Rule
 pub mod Writes

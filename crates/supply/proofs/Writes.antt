@@ -5,7 +5,7 @@ use Rattle.std.proofs.lemmas.List.Edits.{paste_more}
 use Rattle.supply.specs.Budget.{allowed, is_on, Asked}
 use Rattle.supply.specs.Writing.{Asks, ByteWrites, written}
 use Rattle.supply.specs.declared.Supply.{Supply}
-use Rattle.supply.proofs.Spending.{all_done, asked_none, asked_then, asked_cut, cut_at, lasts_left, spent_on}
+use Rattle.supply.proofs.Asking.{all_done, asked_none, asked_then, asked_cut, cut_at, lasts_left, spent_on}
 
 -- byte by byte, and as long as before
 module _ (k : ℕ) (new old : List ℕ) (within : k ≤ length new) where
