@@ -24,7 +24,7 @@ impl<D: Device, V: Validator> Engine<D, V> {
         self.on && self.device.is_on() && self.schema.is_ok()
     }
 
-    // The first refusal of every call: the engine is off.
+    // The first refusal of every call after those of its numbers: the engine is off.
     fn check_on(&self) -> Result<(), Refusal>
         ensures { result ≡ (if (seen D.Device.powered self.now).on then Ok tt else Err Refusal.EngineOff) }
     {
@@ -35,7 +35,7 @@ impl<D: Device, V: Validator> Engine<D, V> {
         }
     }
 
-    // The first refusal of every call to a session: the engine is off, or the session not open.
+    // The first refusal of every call to a session after those of its numbers: the engine is off, or the session not open.
     pub(crate) fn check_open(&self, by: Session) -> Result<(), Refusal>
         ensures { refusal_of result ≡ open_refusal (seen D.Device.powered self.now) (number_of by) }
     {
